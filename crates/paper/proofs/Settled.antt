@@ -1,0 +1,107 @@
+-- The settled examples (1) to (12) of the paper, as one statement over their set, and sheet A entire: all by computation.
+use Prim.Native.Nat.{ℕ}
+use mathlib.Core.Path.{_≡_, refl}
+use mathlib.Core.List.{List, [], _∷_, _++_, flatMap, flatten, zipWith}
+use lib.ListN.{length, take, drop, replicate}
+use Rattle.paper.specs.Buffers.{laid, Work, short, clock-slots, mask-slots, value-slots, filled, after-call, written-to}
+use Rattle.paper.specs.Bytes.{text, two-bytes, four-bytes}
+use Rattle.paper.specs.Chain.{first-that, learner, sender, walk, chain}
+use Rattle.paper.specs.Class.{Classed, class}
+use Rattle.paper.specs.Clock.{zero-clock, tick, merge}
+use Rattle.paper.specs.Event.{is-sent-to, event-at, first-events, events-of}
+use Rattle.paper.specs.Listing.{digits, decimal, word, words, event-line, event-lines, head-line, listing}
+use Rattle.paper.specs.Machine.{start, member, in-queue, in-front, wrong-peer, wrong-number, shape, answer, front, rest, event-clock, accepted, offered, answers, clocked}
+use Rattle.paper.specs.Order.{nothing, within, same, verdict}
+use Rattle.paper.specs.Questions.{list-refusal, comparing-refusal, comparing, chaining-refusal, chaining, writing-refusal, writing}
+use Rattle.paper.specs.Reading.{header-checks, first-refused, begins, stamps-refused, Read, read-of, reading-refusal, reading}
+use Rattle.paper.specs.Refusals.{Refusal, of-call, refused, done}
+use Rattle.paper.specs.Sheet.{stamp-bytes, pieces, stamps-part, header, written}
+use Rattle.paper.specs.Stamp.{mask, values, cut, no-stamp, carried, previous, stamp-of, stamps-after}
+use Rattle.paper.specs.Table.{at, at₂}
+
+-- The record of an event.
+abbrev event-bytes : ℕ → ℕ → ℕ → ℕ → List ℕ
+event-bytes kind process peer message = kind ∷ process ∷ peer ∷ 0 ∷ message ∷ 0 ∷ 0 ∷ 0 ∷ []
+
+-- The event list of sheet A, and list B.
+abbrev pub A : List ℕ
+A =
+    event-bytes 1 0 1 1 ++ (event-bytes 1 2 1 2 ++ (event-bytes 2 1 0 1 ++ (event-bytes 1 1 0 3
+    ++ (event-bytes 2 1 2 2 ++ (event-bytes 1 1 0 4 ++ (event-bytes 2 0 1 3 ++ event-bytes 2 0 1 4))))))
+
+abbrev pub B : List ℕ
+B =
+    event-bytes 0 0 0 0 ++ (event-bytes 0 0 0 0 ++ (event-bytes 0 0 0 0 ++ (event-bytes 0 0 0 0
+    ++ (event-bytes 1 0 1 1 ++ (event-bytes 2 1 0 1 ++ (event-bytes 1 1 0 2 ++ event-bytes 1 1 0 3))))))
+
+-- Work buffers of n processes and m events, and one slot more, all holding 9.
+abbrev lent : ℕ → ℕ → Work
+lent clocks masks = record { clocks = replicate clocks 9; masks = replicate masks 9; values = replicate clocks 9 }
+
+-- The header of example 11, and 92 further bytes.
+abbrev wrapping : List ℕ
+wrapping =
+    (67 ∷ 75 ∷ 84 ∷ 3 ∷ 1 ∷ 0 ∷ 0 ∷ 0 ∷ 24 ∷ 0 ∷ 0 ∷ 255 ∷ 64 ∷ 0 ∷ 0 ∷ 1 ∷ 88 ∷ 0 ∷ 0 ∷ 0 ∷ 28 ∷ 0 ∷ 0 ∷ 0 ∷ []) ++ replicate 92 0
+
+pub record Settled : Type 0 where
+  -- (1) the clocks of A, and (2) its masks, with the carried values, as reading A leaves them
+  pub clocks-of-A :
+      reading (written 3 A) (lent 25 9) .1 .clocks
+      ≡ (1 ∷ 0 ∷ 0 ∷ []) ++ ((0 ∷ 0 ∷ 1 ∷ []) ++ ((1 ∷ 1 ∷ 0 ∷ []) ++ ((1 ∷ 2 ∷ 0 ∷ []) ++ ((1 ∷ 3 ∷ 1 ∷ []) ++ ((1 ∷ 4 ∷ 1 ∷ []) ++ ((2 ∷ 2 ∷ 0 ∷ []) ++ ((3 ∷ 4 ∷ 1 ∷ []) ++ (9 ∷ []))))))))
+  pub masks-of-A : reading (written 3 A) (lent 25 9) .1 .masks ≡ 1 ∷ 4 ∷ 0 ∷ 3 ∷ 0 ∷ 6 ∷ 0 ∷ 0 ∷ 9 ∷ []
+  pub values-of-A : reading (written 3 A) (lent 25 9) .1 .values ≡ (1 ∷ 1 ∷ 1 ∷ 2 ∷ 4 ∷ 1 ∷ []) ++ (replicate 18 0 ++ (9 ∷ []))
+  -- (3) event 1 and event 3 give 3; (4) 1 and 7 give 1; (5) 7 and 0 give 2; and an event and itself 3
+  pub neither : comparing 3 A (lent 24 8) 1 3 .0 ≡ done 3
+  pub before : comparing 3 A (lent 24 8) 1 7 .0 ≡ done 1
+  pub after : comparing 3 A (lent 24 8) 7 0 .0 ≡ done 2
+  pub itself : comparing 3 A (lent 24 8) 4 4 .0 ≡ done 3
+  -- (6) the chain from 1 to 7 is 1, 5
+  pub chain-of-A : chaining 3 A (lent 24 8) 1 7 (replicate 512 9) .2 ≡ 1 ∷ 5 ∷ replicate 510 9
+  -- (7) the empty list has no clocks
+  pub empty : class 3 [] (lent 0 0) [] ≡ (done (record { accepted = 0; carried = 0 }), lent 0 0, [])
+  -- (8) messages 1, 2 sent from 0 to 1, then 2 received first: 16
+  pub overtaken : class 2 (event-bytes 1 0 1 1 ++ (event-bytes 1 0 1 2 ++ event-bytes 2 1 0 2)) (lent 6 3) (9 ∷ 9 ∷ 9 ∷ []) .2 ≡ 0 ∷ 0 ∷ 16 ∷ []
+  -- (9) message 1 received twice: 15
+  pub twice : class 2 (event-bytes 1 0 1 1 ++ (event-bytes 2 1 0 1 ++ event-bytes 2 1 0 1)) (lent 6 3) (9 ∷ 9 ∷ 9 ∷ []) .2 ≡ 0 ∷ 0 ∷ 15 ∷ []
+  -- (10) one process, a send to 0: 12
+  pub to-itself : class 1 (event-bytes 1 0 0 1) (lent 1 1) (9 ∷ []) .2 ≡ 12 ∷ []
+  -- (11) event offset 4,278,190,104 and size 16,777,280, whose 32-bit sum is 88: 6
+  pub wraps : reading wrapping (lent 24 8) ≡ (refused (of-call 6), lent 24 8)
+  -- (12) list B: the clocks of the last two, and their masks
+  pub clocks-of-B : drop 12 (class 2 B (lent 16 8) (replicate 8 9) .1 .clocks) ≡ 5 ∷ 2 ∷ 5 ∷ 3 ∷ []
+  pub masks-of-B : drop 6 (class 2 B (lent 16 8) (replicate 8 9) .1 .masks) ≡ 3 ∷ 2 ∷ []
+  -- sheet A as written is 116 bytes: events at 24 for 64, stamps at 88 for 28; and its listing
+  pub sheet-A :
+      written 3 A
+      ≡ (67 ∷ 75 ∷ 84 ∷ 3 ∷ 1 ∷ 0 ∷ 0 ∷ 0 ∷ 24 ∷ 0 ∷ 0 ∷ 0 ∷ 64 ∷ 0 ∷ 0 ∷ 0 ∷ 88 ∷ 0 ∷ 0 ∷ 0 ∷ 28 ∷ 0 ∷ 0 ∷ 0 ∷ [])
+      ++ (A ++ (1 ∷ 0 ∷ 0 ∷ 0 ∷ 1 ∷ 0 ∷ 4 ∷ 0 ∷ 0 ∷ 0 ∷ 1 ∷ 0 ∷ 3 ∷ 0 ∷ 0 ∷ 0 ∷ 1 ∷ 0 ∷ 2 ∷ 0 ∷ 6 ∷ 0 ∷ 0 ∷ 0 ∷ 4 ∷ 0 ∷ 1 ∷ 0 ∷ []))
+  pub bytes-of-A : length (written 3 A) ≡ 116
+  pub read-A : reading (written 3 A) (lent 24 8) .0 ≡ done (record { processes = 3; list = A; carried = 6 })
+  pub listing-of-A :
+      listing 3 A
+      ≡ text "events 8 processes 3 entries 6\n0 S 0 1 1 1 1 0 0\n1 S 2 1 2 4 0 0 1\n2 R 1 0 1 0 1 1 0\n3 S 1 0 3 3 1 2 0\n4 R 1 2 2 0 1 3 1\n5 S 1 0 4 6 1 4 1\n6 R 0 1 3 0 2 2 0\n7 R 0 1 4 0 3 4 1\n"
+
+pub settled : Settled
+unfolding first-events event-at is-sent-to clocked start offered accepted event-clock answer answers shape member in-queue in-front front rest at at₂ wrong-peer wrong-number zero-clock tick merge nothing chain walk first-that learner sender verdict within same stamps-after stamp-of previous cut no-stamp carried mask values laid short clock-slots value-slots filled after-call written-to class comparing comparing-refusal chaining chaining-refusal list-refusal reading reading-refusal read-of header-checks first-refused stamps-refused begins pieces stamps-part stamp-bytes header written flatMap flatten zipWith two-bytes four-bytes text digits decimal word words event-line event-lines head-line listing
+settled =
+    record {
+      clocks-of-A = refl;
+      masks-of-A = refl;
+      values-of-A = refl;
+      neither = refl;
+      before = refl;
+      after = refl;
+      itself = refl;
+      chain-of-A = refl;
+      empty = refl;
+      overtaken = refl;
+      twice = refl;
+      to-itself = refl;
+      wraps = refl;
+      clocks-of-B = refl;
+      masks-of-B = refl;
+      sheet-A = refl;
+      bytes-of-A = refl;
+      read-A = refl;
+      listing-of-A = refl;
+    }

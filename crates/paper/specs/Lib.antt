@@ -1,0 +1,16 @@
+pub mod Bytes
+pub mod Clock
+pub mod Event
+pub mod Refusals
+pub mod Table
+pub mod Machine
+pub mod Stamp
+pub mod Running
+pub mod Order
+pub mod Chain
+pub mod Buffers
+pub mod Sheet
+pub mod Reading
+pub mod Class
+pub mod Questions
+pub mod Listing
