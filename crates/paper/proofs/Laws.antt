@@ -1,7 +1,10 @@
 pub mod Tests
 pub mod Tables
 pub mod Clocks
+pub mod Masks
 pub mod Judged
 pub mod Moves
 pub mod Places
+pub mod Queues
 pub mod Runs
+pub mod Append

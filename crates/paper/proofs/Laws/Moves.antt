@@ -1,4 +1,4 @@
--- What becomes of the plain machine's state, and of the records beside it, by the kind of an accepted event.
+-- What becomes of the plain machine's state, of the records beside it and of the clocks of the last sends, by the kind of an accepted event.
 use Prim.Native.Nat.{ℕ}
 use mathlib.Core.Path.{_≡_}
 use mathlib.Core.Logic.{_≢_}
@@ -6,8 +6,9 @@ use mathlib.Core.List.{[], _∷_, _++_}
 use borrow.Author.Tests.{eq-eqb, ne-eqb}
 use Rattle.paper.specs.Clock.{Clock, tick, merge}
 use Rattle.paper.specs.Event.{Event, internal, send, receive}
-use Rattle.paper.specs.Machine.{State, waiting, counted, event-clock, accepted, front, rest}
+use Rattle.paper.specs.Machine.{State, Clocked, waiting, counted, event-clock, accepted, front, rest}
 use Rattle.paper.specs.Running.{Records, counted-record, record-stamp, heard, moved, recorded, sending, receiving}
+use Rattle.paper.specs.Stamp.{previous}
 use Rattle.paper.specs.Table.{at, at₂}
 
 module _ (s : State) (e : Event) where
@@ -63,3 +64,12 @@ module _ (x : Records) (e : Event) where
       }
   unfolding recorded moved
   recorded-receive k = rw k
+
+module _ (last : ℕ → ℕ → Clock) (c : Clocked) where
+  pub previous-send : c .event .kind ≡ send → previous last c ≡ at₂ last (c .event .process) (c .event .peer) (c .clock)
+  unfolding previous
+  previous-send k = rw (eq-eqb (c .event .kind) send k)
+
+  pub previous-other : c .event .kind ≢ send → previous last c ≡ last
+  unfolding previous
+  previous-other k = rw (ne-eqb (c .event .kind) send k)

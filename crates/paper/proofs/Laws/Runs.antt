@@ -1,9 +1,11 @@
 -- Induction along a run: what an accepted offer keeps between the state and the events accepted so far holds after every list of offers.
-use Prim.Native.Nat.{ℕ}
+use Prim.Native.Nat.{ℕ, suc, _≤_}
+use native.Mathlib.Omega.{arith}
 use mathlib.Core.Path.{_≡_, refl}
 use mathlib.Core.Bool.{Bool, true, false, cond}
 use mathlib.Core.List.{List, [], _∷_, _++_, append-nil, append-assoc}
 use lib.Dec.{eqb}
+use lib.ListN.{length}
 use borrow.Author.Tests.{eqb-true}
 use Rattle.paper.specs.Event.{Event}
 use Rattle.paper.specs.Machine.{State, Clocked, answer, accepted, event-clock, offered, run, clocked}
@@ -24,3 +26,13 @@ module _ (n : ℕ) (P : State → List Clocked → Type 0)
             let x : Clocked = record { event = e; clock = event-clock s e } in
             rw append-assoc at (ih (accepted s e) (es ++ (x ∷ [])) (keep s es e (eqb-true (answer n s e) 0 q) p))
         go ih false q = ih s es p
+
+-- No more events are accepted than offered.
+pub clocked-few : (n : ℕ) (es : List Event) (s : State) → length (clocked n s es) ≤ length es
+unfolding clocked
+clocked-few n [] s = omega arith
+clocked-few n (e ∷ es) s = go (eqb (answer n s e) 0) (clocked n (offered n s e) es) (clocked-few n es (offered n s e))
+  where
+    go : (b : Bool) (r : List Clocked) → length r ≤ length es → length (cond b (record { event = e; clock = event-clock s e } ∷ r) r) ≤ suc (length es)
+    go true r h = omega arith
+    go false r h = omega arith
