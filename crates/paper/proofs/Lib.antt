@@ -5,4 +5,9 @@ pub mod Stamps
 pub mod Agreement
 pub mod Sufficiency
 pub mod LeftOut
+pub mod Sheets
+pub mod ReadExactly
+pub mod RoundTrip
+pub mod Elsewhere
+pub mod StampSays
 pub mod Settled
