@@ -4,13 +4,12 @@ use mathlib.Core.Path.{_≡_, refl, sym, ap, _∙_}
 use mathlib.Core.Logic.{_≢_}
 use mathlib.Core.List.{List, [], _∷_, _++_}
 use lib.ListN.{length, take, drop}
-use lib.Seq.{take-at, drop-at}
 use borrow.Author.Tests.{ne-eqb}
 use Rattle.paper.specs.Event.{Event}
 use Rattle.paper.specs.Machine.{State, answer, offered, run, answers, clocked, start}
 use Rattle.paper.specs.Running.{Records, fresh-records, records, record-stamps}
 use Rattle.paper.specs.Stamp.{stamps}
-use Rattle.paper.proofs.Laws.Append.{answers-append, clocked-append, records-append, record-stamps-append, length-answers}
+use Rattle.paper.proofs.Laws.Append.{answers-append, clocked-append, record-stamps-append, length-answers}
 
 module _ (n : ℕ) (s : State) (x : Records) (e : Event) (no-event : answer n s e ≢ 0) where
   same-state : offered n s e ≡ s

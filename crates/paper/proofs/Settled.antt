@@ -2,19 +2,19 @@
 use Prim.Native.Nat.{ℕ}
 use mathlib.Core.Path.{_≡_, refl}
 use mathlib.Core.List.{List, [], _∷_, _++_, flatMap, flatten, zipWith}
-use lib.ListN.{length, take, drop, replicate}
-use Rattle.paper.specs.Buffers.{laid, Work, short, clock-slots, mask-slots, value-slots, filled, after-call, written-to}
+use lib.ListN.{length, drop, replicate}
+use Rattle.paper.specs.Buffers.{laid, Work, short, clock-slots, value-slots, filled, after-call, written-to}
 use Rattle.paper.specs.Bytes.{text, two-bytes, four-bytes}
 use Rattle.paper.specs.Chain.{first-that, learner, sender, walk, chain}
-use Rattle.paper.specs.Class.{Classed, class}
+use Rattle.paper.specs.Class.{class}
 use Rattle.paper.specs.Clock.{zero-clock, tick, merge}
-use Rattle.paper.specs.Event.{is-sent-to, event-at, first-events, events-of}
+use Rattle.paper.specs.Event.{is-sent-to, event-at, first-events}
 use Rattle.paper.specs.Listing.{digits, decimal, word, words, event-line, event-lines, head-line, listing}
 use Rattle.paper.specs.Machine.{start, member, in-queue, in-front, wrong-peer, wrong-number, shape, answer, front, rest, event-clock, accepted, offered, answers, clocked}
 use Rattle.paper.specs.Order.{nothing, within, same, verdict}
-use Rattle.paper.specs.Questions.{list-refusal, comparing-refusal, comparing, chaining-refusal, chaining, writing-refusal, writing}
-use Rattle.paper.specs.Reading.{header-checks, first-refused, begins, stamps-refused, Read, read-of, reading-refusal, reading}
-use Rattle.paper.specs.Refusals.{Refusal, of-call, refused, done}
+use Rattle.paper.specs.Questions.{list-refusal, comparing-refusal, comparing, chaining-refusal, chaining}
+use Rattle.paper.specs.Reading.{header-checks, first-refused, begins, stamps-refused, read-of, reading-refusal, reading}
+use Rattle.paper.specs.Refusals.{of-call, refused, done}
 use Rattle.paper.specs.Sheet.{stamp-bytes, pieces, stamps-part, header, written}
 use Rattle.paper.specs.Stamp.{mask, values, cut, no-stamp, carried, previous, stamp-of, stamps-after}
 use Rattle.paper.specs.Table.{at, at₂}

@@ -4,7 +4,7 @@ use mathlib.Core.Path.{_≡_}
 use mathlib.Core.Logic.{_≢_}
 use mathlib.Core.List.{[], _∷_, _++_}
 use borrow.Author.Tests.{eq-eqb, ne-eqb}
-use Rattle.paper.specs.Clock.{Clock, tick, merge}
+use Rattle.paper.specs.Clock.{Clock, merge}
 use Rattle.paper.specs.Event.{Event, internal, send, receive}
 use Rattle.paper.specs.Machine.{State, Clocked, waiting, counted, event-clock, accepted, front, rest}
 use Rattle.paper.specs.Running.{Records, counted-record, record-stamp, heard, moved, recorded, sending, receiving}

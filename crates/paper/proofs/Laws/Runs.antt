@@ -1,13 +1,13 @@
 -- Induction along a run: what an accepted offer keeps between the state and the events accepted so far holds after every list of offers.
-use Prim.Native.Nat.{ℕ, suc, _≤_}
+use Prim.Native.Nat.{ℕ, zero, suc, _*_, _≤_}
 use native.Mathlib.Omega.{arith}
 use mathlib.Core.Path.{_≡_, refl}
 use mathlib.Core.Bool.{Bool, true, false, cond}
 use mathlib.Core.List.{List, [], _∷_, _++_, append-nil, append-assoc}
 use lib.Dec.{eqb}
-use lib.ListN.{length}
+use lib.ListN.{length, length-append}
 use borrow.Author.Tests.{eqb-true}
-use Rattle.paper.specs.Event.{Event}
+use Rattle.paper.specs.Event.{Event, event-at, first-events}
 use Rattle.paper.specs.Machine.{State, Clocked, answer, accepted, event-clock, offered, run, clocked}
 
 module _ (n : ℕ) (P : State → List Clocked → Type 0)
@@ -36,3 +36,8 @@ clocked-few n (e ∷ es) s = go (eqb (answer n s e) 0) (clocked n (offered n s e
     go : (b : Bool) (r : List Clocked) → length r ≤ length es → length (cond b (record { event = e; clock = event-clock s e } ∷ r) r) ≤ suc (length es)
     go true r h = omega arith
     go false r h = omega arith
+
+pub length-events : (k : ℕ) (list : List ℕ) → length (first-events k list) ≡ k
+unfolding first-events
+length-events zero list = refl
+length-events (suc k) list = omega (arith, length-append (first-events k list) (event-at list (8 * k) ∷ []), length-events k list)

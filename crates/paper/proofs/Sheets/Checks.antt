@@ -10,7 +10,7 @@ use borrow.Author.Tests.{ltb-true, ltb-false, eqb-true, eqb-false, eq-eqb, le-lt
 use Rattle.paper.specs.Buffers.{Work, short}
 use Rattle.paper.specs.Clock.{most-processes, most-events}
 use Rattle.paper.specs.Reading.{wrong-count, outside, shared}
-use Rattle.paper.specs.Refusals.{first, Refusal, of-call, _then_, done, refused, outcome}
+use Rattle.paper.specs.Refusals.{first, Refusal, _then_, done, refused, outcome}
 use Rattle.paper.specs.Sheet.{Apart}
 use Rattle.paper.proofs.Laws.Tests.{also}
 
@@ -42,14 +42,6 @@ both {P} {Q} r k p q = go (eqb (r .number) 0) refl
     go : (t : Bool) → eqb (r .number) 0 ≡ t → (cond t k r .number ≡ 0) ↔ (P × Q)
     go true e = (λ h. (p .0 (eqb-true (r .number) 0 e), q .0 h), λ h. q .1 (h .1))
     go false e = (λ h. absurd (eqb-false (r .number) 0 e h), λ h. absurd (eqb-false (r .number) 0 e (p .1 (h .0))))
-
--- Where the number 0 of the later checks comes with the position 0, it does of all.
-pub both-none : (r k : Refusal) → (k .number ≡ 0 → k ≡ of-call 0) → (r then k) .number ≡ 0 → (r then k) ≡ of-call 0
-both-none r k f = go (eqb (r .number) 0) refl
-  where
-    go : (t : Bool) → eqb (r .number) 0 ≡ t → cond t k r .number ≡ 0 → cond t k r ≡ of-call 0
-    go true e h = f h
-    go false e h = absurd (eqb-false (r .number) 0 e h)
 
 -- A call is done exactly when its refusal number is 0.
 pub is-done : {A : Type 0} (r : Refusal) (a x : A) → (outcome r a ≡ done x) ↔ ((r .number ≡ 0) × (a ≡ x))

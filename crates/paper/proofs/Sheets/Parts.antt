@@ -12,7 +12,7 @@ use borrow.Author.Tests.{eqb-true, eq-eqb}
 use Rattle.paper.specs.Event.{Event}
 use Rattle.paper.specs.Machine.{State, answer, offered, answers}
 use Rattle.paper.specs.Reading.{first-refused, begins, stamps-refused}
-use Rattle.paper.specs.Refusals.{Refusal, of-call}
+use Rattle.paper.specs.Refusals.{Refusal}
 use Rattle.paper.proofs.Laws.Tests.{also, and-both}
 use Rattle.paper.proofs.Sheets.Checks.{both}
 
@@ -62,15 +62,3 @@ stamps-say (t ∷ ts) i b = (to (begins t b) refl (stamps-say ts (suc i) (drop (
         stamps-refused (suc i) ts (flatten ts) .number ≡ 0 → b ≡ t ++ flatten ts
         → cond (begins t b) rest (record { number = 18; position = i }) .number ≡ 0
     from ih h = rw (h, begins-self t (flatten ts), drop-append-seam t (flatten ts)) ih
-
-pub stamps-none : (ts : List (List ℕ)) (i : ℕ) (b : List ℕ) → stamps-refused i ts b .number ≡ 0 → stamps-refused i ts b ≡ of-call 0
-unfolding stamps-refused
-stamps-none [] i [] h = refl
-stamps-none [] i (x ∷ b) h = absurd (omega arith)
-stamps-none (t ∷ ts) i b h = go (begins t b) (stamps-none ts (suc i) (drop (length t) b)) h
-  where
-    go :
-        (c : Bool) {r : Refusal} → (r .number ≡ 0 → r ≡ of-call 0) → cond c r (record { number = 18; position = i }) .number ≡ 0
-        → cond c r (record { number = 18; position = i }) ≡ of-call 0
-    go true ih h = ih h
-    go false ih h = absurd (omega arith)

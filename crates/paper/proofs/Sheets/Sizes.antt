@@ -1,26 +1,18 @@
 -- Sizes: a stamp is at most 68 bytes, and there are at most as many as events, so the stamps of 512 events are at most 34,816 bytes.
-use Prim.Native.Nat.{ℕ, zero, suc, _*_, _≤_}
+use Prim.Native.Nat.{ℕ, _*_, _≤_}
 use native.Mathlib.Omega.{arith}
 use mathlib.Core.Path.{_≡_, refl}
 use mathlib.Core.Bool.{Bool, true, false, cond}
-use mathlib.Core.List.{List, [], _∷_, _++_, zipWith, flatMap, flatten}
-use lib.Dec.{eqb}
+use mathlib.Core.List.{List, [], _∷_, zipWith, flatMap, flatten}
 use lib.ListN.{length, length-append}
 use Rattle.paper.specs.Bytes.{two-bytes, four-bytes}
-use Rattle.paper.specs.Clock.{Clock, part}
-use Rattle.paper.specs.Event.{Event, is-send, event-at, how-many, first-events, events-of}
-use Rattle.paper.specs.Machine.{State, Clocked, start, answer, offered, event-clock, clocked}
+use Rattle.paper.specs.Clock.{Clock}
+use Rattle.paper.specs.Event.{is-send, how-many, events-of}
+use Rattle.paper.specs.Machine.{Clocked, start, clocked}
 use Rattle.paper.specs.Sheet.{stamp-bytes, piece, pieces, stamps-part}
 use Rattle.paper.specs.Stamp.{values, cut, carried, no-stamp, never-sent, previous, stamp-of, stamps-after}
-
-values-few : (p : ℕ → Bool) (v : Clock) (k : ℕ) → length (values p v k) ≤ k
-unfolding values
-values-few p v zero = omega arith
-values-few p v (suc k) = go (p k) (values-few p v k)
-  where
-    go : (b : Bool) → length (values p v k) ≤ k → length (cond b (values p v k ++ (part v k ∷ [])) (values p v k)) ≤ suc k
-    go true h = omega (arith, length-append (values p v k) (part v k ∷ []))
-    go false h = omega arith
+use Rattle.paper.proofs.Laws.Masks.{length-values, count-le}
+use Rattle.paper.proofs.Laws.Runs.{clocked-few, length-events}
 
 values-double : (vs : List ℕ) → length (flatMap two-bytes vs) ≡ 2 * length vs
 unfolding flatMap two-bytes
@@ -29,7 +21,7 @@ values-double (v ∷ vs) = omega (arith, values-double vs)
 
 stamp-short : (p : ℕ → Bool) (v : Clock) → length (stamp-bytes (cut p v)) ≤ 68
 unfolding stamp-bytes cut four-bytes
-stamp-short p v = omega (arith, values-double (values p v 32), values-few p v 32)
+stamp-short p v = omega (arith, values-double (values p v 32), length-values p v 32, count-le p 32)
 
 piece-short : (last : ℕ → ℕ → Clock) (c : Clocked) → length (piece c (stamp-of last c)) ≤ 68
 unfolding stamp-of
@@ -50,24 +42,8 @@ pieces-short (c ∷ cs) last =
       pieces-short cs (previous last c),
     )
 
-clocked-few : (es : List Event) (n : ℕ) (s : State) → length (clocked n s es) ≤ length es
-unfolding clocked
-clocked-few [] n s = omega arith
-clocked-few (e ∷ es) n s = go (eqb (answer n s e) 0) (clocked n (offered n s e) es) (clocked-few es n (offered n s e))
-  where
-    go :
-        (b : Bool) (r : List Clocked) → length r ≤ length es
-        → length (cond b (record { event = e; clock = event-clock s e } ∷ r) r) ≤ suc (length es)
-    go true r h = omega arith
-    go false r h = omega arith
-
-length-events : (k : ℕ) (list : List ℕ) → length (first-events k list) ≡ k
-unfolding first-events
-length-events zero list = refl
-length-events (suc k) list = omega (arith, length-append (first-events k list) (event-at list (8 * k) ∷ []), length-events k list)
-
 pub stamps-short : (n : ℕ) (list : List ℕ) → length list ≤ 4096 → length (stamps-part n list) ≤ 34816
 unfolding stamps-part pieces
 stamps-short n list h =
     let es = events-of list in
-    omega (arith, pieces-short (clocked n start es) never-sent, clocked-few es n start, length-events (how-many list) list)
+    omega (arith, pieces-short (clocked n start es) never-sent, clocked-few n es start, length-events (how-many list) list)

@@ -2,14 +2,12 @@
 use Prim.Native.Nat.{ℕ, _≤_, _<_}
 use mathlib.Core.Path.{_≡_, refl, ap, subst, _∙_, fun-ext}
 use mathlib.Core.Bool.{Bool, true, false, cond}
-use mathlib.Core.List.{List, [], _∷_}
 use native.Mathlib.Omega.{arith}
-use lib.Dec.{eqb}
 use lib.ListN.{length}
 use borrow.Author.Tests.{eqb-true, eq-eqb}
-use Rattle.paper.specs.Clock.{Clock, zero-clock, tick, merge, Within}
+use Rattle.paper.specs.Clock.{Clock, tick, merge, Within}
 use Rattle.paper.specs.Event.{Event, internal, send, receive, is-send}
-use Rattle.paper.specs.Machine.{State, Clocked, start, waiting, counted, event-clock, answer, accepted, offered, front, rest}
+use Rattle.paper.specs.Machine.{State, Clocked, start, waiting, counted, event-clock, answer, accepted, front}
 use Rattle.paper.specs.Running.{Running, fresh, counting, news, sending, receiving, Records, fresh-records, counted-record, record-stamp, front-stamp, heard, recorded}
 use Rattle.paper.specs.Stamp.{cut, no-stamp, carried, never-sent, previous, stamp-of}
 use Rattle.paper.specs.Table.{at, at₂}
