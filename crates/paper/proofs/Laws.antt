@@ -6,5 +6,6 @@ pub mod Judged
 pub mod Moves
 pub mod Places
 pub mod Queues
+pub mod Verdict
 pub mod Runs
 pub mod Append

@@ -1,0 +1,14 @@
+use Rattle.clock.proofs.judge.Statement.{statement}
+use Rattle.clock.proofs.judge.Tie as tie
+
+returns : tie.Need-returns
+returns c = simp (c .if1 .taken)
+
+returns-2 : tie.Need-returns-2
+returns-2 c = simp (c .if2 .taken, c .before .before .before .if1 .left)
+
+returns-3 : tie.Need-returns-3
+returns-3 c = simp (c .if2 .left, c .before .before .before .if1 .left)
+
+pub judge-spec : {M : Type 1} → statement M
+judge-spec = tie.close (tie.spec returns returns-2 returns-3)

@@ -1,0 +1,106 @@
+// Clocks by value, the three sorts of figure, and the verdict on two lent clocks.
+ghost use mathlib.Core.Path.{_≡_};
+ghost use mathlib.Core.Bool.{cond, _&&_, not};
+ghost use lib.ListN.{length};
+ghost use Rattle.paper.specs.Clock.{zero-clock};
+ghost use Rattle.paper.specs.Order.{within};
+ghost use Rattle.paper.specs.Questions.{ordering};
+ghost use Rattle.clock.specs.Said.{number, ordered};
+
+// The number of a process, from 0.
+pub struct Process(pub u8);
+
+// The position of an event in its list, from 0.
+pub struct Position(pub usize);
+
+// The number of a message, from 1.
+pub struct Message(pub u16);
+
+// A refusal number, and the position of the refused event; 0 where no event is refused.
+pub struct Refusal {
+    pub number: u8,
+    pub position: Position,
+}
+
+// Thirty-two numbers, of which the first n are used and the rest stay 0.
+pub struct Clock {
+    pub parts: [u16; 32],
+}
+
+impl Clock {
+    // The most processes, and so components.
+    pub const PROCESSES: usize = 32;
+
+    // The most events, which no component passes.
+    pub const EVENTS: usize = 512;
+
+    // VC1: all clocks start at zero.
+    pub fn zero() -> Clock
+        ensures { λ r. ⌜ r .parts ≡ zero-clock ⌝ }
+    {
+        Clock { parts: [0u16; 32] }
+    }
+}
+
+pub enum Verdict {
+    Before,
+    After,
+    Neither,
+}
+
+// What comparing two lent clocks answers.
+pub enum Ordered {
+    Refused(Refusal),
+    Judged(Verdict),
+}
+
+struct Both {
+    there: bool,
+    back: bool,
+}
+
+// Whether no component of the first exceeds the second's, and the other way round.
+fn ways(first: &[u16], second: &[u16]) -> Both
+    requires { ⌜ length (now first) ≡ length (now second) ⌝ }
+    ensures { λ r. ⌜ (r .there ≡ within (length (now (first .entry))) (now (first .entry)) (now (second .entry)))
+        × (r .back ≡ within (length (now (first .entry))) (now (second .entry)) (now (first .entry))) ⌝ }
+{
+    let mut there = true;
+    let mut back = true;
+    let mut k: usize = 0;
+    while k < first.len() {
+        there = there & (first[k] <= second[k]);
+        back = back & (second[k] <= first[k]);
+        k += 1;
+    }
+    Both {
+        there: there,
+        back: back,
+    }
+}
+
+fn judge(w: Both) -> Verdict
+    ensures { λ r. ⌜ number r ≡ cond (w .there && not (w .back)) 1 (cond (w .back && not (w .there)) 2 3) ⌝ }
+{
+    if w.there & !w.back {
+        return Verdict::Before;
+    }
+    if w.back & !w.there {
+        return Verdict::After;
+    }
+    Verdict::Neither
+}
+
+// The verdict on two lent clocks; 4 where a length is not 1 to 32, or the two differ.
+pub fn order(first: &[u16], second: &[u16]) -> Ordered
+    ensures { λ r. ⌜ ordered r ≡ ordering (now (first .entry)) (now (second .entry)) ⌝ }
+{
+    let n = first.len();
+    if (n < 1) | (Clock::PROCESSES < n) | (n != second.len()) {
+        return Ordered::Refused(Refusal {
+            number: 4,
+            position: Position(0),
+        });
+    }
+    Ordered::Judged(judge(ways(first, second)))
+}
