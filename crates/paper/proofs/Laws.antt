@@ -1,11 +1,13 @@
 pub mod Tests
 pub mod Tables
 pub mod Clocks
+pub mod Stores
 pub mod Masks
 pub mod Judged
 pub mod Moves
 pub mod Places
 pub mod Queues
+pub mod Sends
 pub mod Verdict
 pub mod Runs
 pub mod Append

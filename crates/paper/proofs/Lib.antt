@@ -5,6 +5,11 @@ pub mod Stamps
 pub mod Agreement
 pub mod Sufficiency
 pub mod LeftOut
+pub mod Fifo
+pub mod Causality
+pub mod MergeFirst
+pub mod Verdicts
+pub mod ChainRight
 pub mod Sheets
 pub mod ReadExactly
 pub mod RoundTrip

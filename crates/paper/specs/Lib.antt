@@ -8,6 +8,7 @@ pub mod Stamp
 pub mod Running
 pub mod Order
 pub mod Chain
+pub mod Channel
 pub mod Buffers
 pub mod Sheet
 pub mod Reading

@@ -1,0 +1,38 @@
+-- Runs of stores into a lent slice, one behind the other.
+use Prim.Native.Nat.{ℕ, suc, _+_, _-_, _≤_, _<_}
+use mathlib.Core.List.{List, [], _∷_, _++_}
+use mathlib.Core.Path.{_≡_, refl, sym, ap, _∙_}
+use native.Mathlib.Nat.{add-zero, zero-add}
+use native.Mathlib.Omega.{arith}
+use lib.ListN.{getD, set, length, take, drop, replicate, length-append, length-replicate, List·getD-append}
+use lib.Seq.{sets, sets-eq, getD-append-add, length-take-le}
+use Rattle.paper.specs.Buffers.{laid}
+
+pub sets-more : (l : List ℕ) (i : ℕ) (vs : List ℕ) (x : ℕ) → sets l i (vs ++ (x ∷ [])) ≡ set (sets l i vs) (i + length vs) x
+sets-more l i [] x = rw add-zero
+sets-more l i (a ∷ vs) x = let e : suc i + length vs ≡ i + suc (length vs) = omega arith in sets-more (set l i a) (suc i) vs x ∙ rw e
+
+-- One store more, behind those that were made.
+pub stored : (out old : List ℕ) (at n x : ℕ) (vs : List ℕ) → out ≡ sets old at vs → n ≡ length vs → set out (at + n) x ≡ sets old at (vs ++ (x ∷ []))
+stored out old at n x vs e h = rw (e, h) (sym (sets-more old at vs x))
+
+pub sets-sets : (l : List ℕ) (i : ℕ) (xs ys : List ℕ) → sets (sets l i xs) (i + length xs) ys ≡ sets l i (xs ++ ys)
+sets-sets l i [] ys = rw add-zero
+sets-sets l i (x ∷ xs) ys = let e : i + suc (length xs) ≡ suc i + length xs = omega arith in rw e (sets-sets (set l i x) (suc i) xs ys)
+
+pub getD-sets : (l vs : List ℕ) (a i : ℕ) → a + length vs ≤ length l → i < length vs → getD (sets l a vs) (a + i) 0 ≡ getD vs i 0
+getD-sets l vs a i h q =
+    let t : length (take a l) ≡ a = length-take-le a l (omega arith) in
+    rw (sets-eq vs l a h)
+    (List·getD-append (take a l ++ vs) (drop (a + length vs) l) 0 (a + i) (rw (length-append, t) (omega arith))
+    ∙ ap (λ (x : ℕ). getD (take a l ++ vs) (x + i) 0) (sym t) ∙ getD-append-add (take a l) vs i 0)
+
+-- What was stored from the front on, and 0 behind it up to the named slots, is what 01 asks for.
+pub sets-laid :
+    (named : ℕ) (xs old : List ℕ) → length xs ≤ named → named ≤ length old
+    → sets (sets old 0 xs) (length xs) (replicate (named - length xs) 0) ≡ laid named xs old
+unfolding laid
+sets-laid named xs old h l =
+    let zeros : List ℕ = replicate (named - length xs) 0 in
+    let n : length (xs ++ zeros) ≡ named = rw (length-append, length-replicate) (omega arith) in
+    (rw zero-add at (sets-sets old 0 xs zeros)) ∙ sets-eq (xs ++ zeros) old 0 (omega arith) ∙ rw (zero-add, n)
