@@ -2,6 +2,7 @@ pub mod Tests
 pub mod Tables
 pub mod Clocks
 pub mod Stores
+pub mod Slots
 pub mod Masks
 pub mod Judged
 pub mod Moves

@@ -2,12 +2,12 @@
 use Prim.Native.Nat.{ℕ, zero, suc}
 use native.Mathlib.Nat.{le-antisymm}
 use native.Mathlib.Omega.{arith}
-use mathlib.Core.Path.{_≡_, refl, sym, ap₂, _∙_}
+use mathlib.Core.Path.{_≡_, refl, ap₂, _∙_}
 use mathlib.Core.Bool.{Bool, true, false, cond, _&&_, not}
 use lib.Dec.{eqb, leb}
 use borrow.Author.Tests.{leb-true, leb-false, eq-eqb, ne-eqb}
 use Rattle.paper.specs.Clock.{Clock, part}
-use Rattle.paper.specs.Order.{within, same, below, verdict}
+use Rattle.paper.specs.Order.{within, same, verdict}
 
 equal-both : (a b : ℕ) → eqb a b ≡ (leb a b && leb b a)
 equal-both a b = go (leb a b) (leb b a) refl refl

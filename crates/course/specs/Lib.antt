@@ -1,0 +1,6 @@
+pub mod View
+pub mod Walk
+pub mod Tables
+pub mod Ledger
+pub mod Turn
+pub mod Course
