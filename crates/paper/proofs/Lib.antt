@@ -15,4 +15,5 @@ pub mod ReadExactly
 pub mod RoundTrip
 pub mod Elsewhere
 pub mod StampSays
+pub mod Lent
 pub mod Settled

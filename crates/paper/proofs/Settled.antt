@@ -2,7 +2,7 @@
 use Prim.Native.Nat.{ℕ}
 use mathlib.Core.Path.{_≡_, refl}
 use mathlib.Core.List.{List, [], _∷_, _++_, flatMap, flatten, zipWith}
-use lib.ListN.{length, drop, replicate}
+use lib.ListN.{length, take, drop, replicate}
 use Rattle.paper.specs.Buffers.{laid, Work, short, clock-slots, value-slots, filled, after-call, written-to}
 use Rattle.paper.specs.Bytes.{text, two-bytes, four-bytes}
 use Rattle.paper.specs.Chain.{first-that, learner, sender, walk, chain}
@@ -38,6 +38,15 @@ B =
 abbrev lent : ℕ → ℕ → Work
 lent clocks masks = record { clocks = replicate clocks 9; masks = replicate masks 9; values = replicate clocks 9 }
 
+-- The same once a call refused above 9: the named slots are 0.
+abbrev cleared : ℕ → ℕ → Work
+cleared clocks masks =
+    record { clocks = replicate clocks 0 ++ (9 ∷ []); masks = replicate masks 0 ++ (9 ∷ []); values = replicate clocks 0 ++ (9 ∷ []) }
+
+-- Messages 1, 2 sent from 0 to 1, then 2 received first.
+abbrev overtaking : List ℕ
+overtaking = event-bytes 1 0 1 1 ++ (event-bytes 1 0 1 2 ++ event-bytes 2 1 0 2)
+
 -- The header of example 11, and 92 further bytes.
 abbrev wrapping : List ℕ
 wrapping =
@@ -60,7 +69,8 @@ pub record Settled : Type 0 where
   -- (7) the empty list has no clocks
   pub empty : class 3 [] (lent 0 0) [] ≡ (done (record { accepted = 0; carried = 0 }), lent 0 0, [])
   -- (8) messages 1, 2 sent from 0 to 1, then 2 received first: 16
-  pub overtaken : class 2 (event-bytes 1 0 1 1 ++ (event-bytes 1 0 1 2 ++ event-bytes 2 1 0 2)) (lent 6 3) (9 ∷ 9 ∷ 9 ∷ []) .2 ≡ 0 ∷ 0 ∷ 16 ∷ []
+  pub overtaken : class 2 overtaking (lent 6 3) (9 ∷ 9 ∷ 9 ∷ []) .2 ≡ 0 ∷ 0 ∷ 16 ∷ []
+  pub overtaken-at : comparing 2 overtaking (lent 7 4) 0 1 ≡ (refused (record { number = 16; position = 2 }), cleared 6 3)
   -- (9) message 1 received twice: 15
   pub twice : class 2 (event-bytes 1 0 1 1 ++ (event-bytes 2 1 0 1 ++ event-bytes 2 1 0 1)) (lent 6 3) (9 ∷ 9 ∷ 9 ∷ []) .2 ≡ 0 ∷ 0 ∷ 15 ∷ []
   -- (10) one process, a send to 0: 12
@@ -77,6 +87,10 @@ pub record Settled : Type 0 where
       ++ (A ++ (1 ∷ 0 ∷ 0 ∷ 0 ∷ 1 ∷ 0 ∷ 4 ∷ 0 ∷ 0 ∷ 0 ∷ 1 ∷ 0 ∷ 3 ∷ 0 ∷ 0 ∷ 0 ∷ 1 ∷ 0 ∷ 2 ∷ 0 ∷ 6 ∷ 0 ∷ 0 ∷ 0 ∷ 4 ∷ 0 ∷ 1 ∷ 0 ∷ []))
   pub bytes-of-A : length (written 3 A) ≡ 116
   pub read-A : reading (written 3 A) (lent 24 8) .0 ≡ done (record { processes = 3; list = A; carried = 6 })
+  -- its last stamp cut short: 18 at its event; a byte more behind its stamps: 19
+  pub ends-early :
+      reading (header 3 64 26 ++ (A ++ take 26 (stamps-part 3 A))) (lent 25 9) ≡ (refused (record { number = 18; position = 5 }), cleared 24 8)
+  pub left-over : reading (header 3 64 29 ++ (A ++ (stamps-part 3 A ++ (0 ∷ [])))) (lent 25 9) ≡ (refused (of-call 19), cleared 24 8)
   pub listing-of-A :
       listing 3 A
       ≡ text "events 8 processes 3 entries 6\n0 S 0 1 1 1 1 0 0\n1 S 2 1 2 4 0 0 1\n2 R 1 0 1 0 1 1 0\n3 S 1 0 3 3 1 2 0\n4 R 1 2 2 0 1 3 1\n5 S 1 0 4 6 1 4 1\n6 R 0 1 3 0 2 2 0\n7 R 0 1 4 0 3 4 1\n"
@@ -95,6 +109,7 @@ settled =
       chain-of-A = refl;
       empty = refl;
       overtaken = refl;
+      overtaken-at = refl;
       twice = refl;
       to-itself = refl;
       wraps = refl;
@@ -103,5 +118,7 @@ settled =
       sheet-A = refl;
       bytes-of-A = refl;
       read-A = refl;
+      ends-early = refl;
+      left-over = refl;
       listing-of-A = refl;
     }

@@ -4,7 +4,7 @@ use mathlib.Core.Bool.{Bool, _||_, not}
 use mathlib.Core.List.{List}
 use lib.Dec.{eqb, ltb}
 use lib.ListN.{length}
-use Rattle.paper.specs.Buffers.{Work, short, after-call, written-to}
+use Rattle.paper.specs.Buffers.{Work, short, entries, after-call, written-to}
 use Rattle.paper.specs.Chain.{chain}
 use Rattle.paper.specs.Class.{list-checks}
 use Rattle.paper.specs.Event.{how-many, events-of}
@@ -22,6 +22,14 @@ list-refusal n list w =
 -- The work buffers after a call on a list.
 abbrev pub list-work : Refusal → ℕ → List ℕ → Work → Work
 list-work r n list w = after-call (r .number) n (how-many list) (clocked n start (events-of list)) w
+
+-- The strict course of a list, on which writing and questions build: how many values the stamps carry.
+unfoldable pub strict : ℕ → List ℕ → Work → Outcome ℕ × Work
+strict n list w =
+    let r = list-refusal n list w in (
+      outcome r (entries (clocked n start (events-of list))),
+      list-work r n list w,
+    )
 
 -- Writing: 21 where the output has fewer bytes than the sheet to be written takes.
 pub record Written : Type 0 where

@@ -4,7 +4,7 @@ use mathlib.Core.List.{List, [], _∷_, _++_}
 use mathlib.Core.Path.{_≡_, sym, ap, _∙_}
 use native.Mathlib.Nat.{add-zero, zero-add}
 use native.Mathlib.Omega.{arith}
-use lib.ListN.{getD, set, length, take, drop, replicate, length-append, length-replicate, List·getD-append}
+use lib.ListN.{getD, set, length, take, drop, replicate, length-append, length-replicate, length-drop, List·getD-append}
 use lib.Seq.{sets, sets-eq, getD-append-add, length-take-le}
 use Rattle.paper.specs.Buffers.{laid}
 
@@ -36,3 +36,8 @@ sets-laid named xs old h l =
     let zeros : List ℕ = replicate (named - length xs) 0 in
     let n : length (xs ++ zeros) ≡ named = rw (length-append, length-replicate) (omega arith) in
     (rw zero-add at (sets-sets old 0 xs zeros)) ∙ sets-eq (xs ++ zeros) old 0 (omega arith) ∙ rw (zero-add, n)
+
+-- What is laid in named slots of a slice leaves it as long as it was.
+pub length-laid : (named : ℕ) (xs old : List ℕ) → length xs ≤ named → named ≤ length old → length (laid named xs old) ≡ length old
+unfolding laid
+length-laid named xs old h l = simp (length-append, length-replicate, length-drop) (omega arith)
