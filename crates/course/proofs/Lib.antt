@@ -11,3 +11,6 @@ pub mod Turns
 pub mod OneOffer
 pub mod Loop
 pub mod Going
+pub mod Clearing
+pub mod Early
+pub mod Called

@@ -4,3 +4,5 @@ pub mod Tables
 pub mod Ledger
 pub mod Turn
 pub mod Course
+pub mod Early
+pub mod Said

@@ -3,3 +3,149 @@ mod channel;
 mod event;
 mod offers;
 mod record;
+mod zero;
+
+ghost use mathlib.Core.Path.{_≡_};
+ghost use Prim.Native.Nat.{_-_, _*_, _≤_};
+ghost use lib.ListN.{length, replicate};
+ghost use lib.Seq.{sets};
+ghost use Rattle.paper.specs.Class as paper;
+ghost use Rattle.paper.specs.Questions as questions;
+ghost use Rattle.paper.specs.Refusals.{of-call};
+ghost use Rattle.clock.specs.Said.{refusal};
+ghost use Rattle.course.specs.Early.{scant, early, Tail};
+ghost use Rattle.course.specs.Said.{work, classed, judged};
+use clock::Position;
+use clock::Refusal;
+
+// What class mode answers: how many events are accepted, and how many values their stamps carry.
+pub enum Classed {
+    Refused(Refusal),
+    Done(usize, usize),
+}
+
+// What a strict course answers: how many values the stamps carry.
+pub enum Judged {
+    Refused(Refusal),
+    Done(usize),
+}
+
+// A refusal that concerns no event.
+fn of_call(number: u8) -> Refusal
+    ensures { λ r. ⌜ refusal r ≡ of-call number ⌝ }
+{
+    Refusal {
+        number: number,
+        position: Position(0),
+    }
+}
+
+// 9: whether a lent buffer is too short for m offers of n processes.
+fn is_scant(n: usize, m: usize, clocks: usize, masks: usize, values: usize, answers: usize) -> bool
+    requires { ⌜ (n ≤ 32) × (m ≤ 512) ⌝ }
+    ensures { λ r. ⌜ r ≡ scant n m clocks masks values answers ⌝ }
+{
+    (clocks < n * m) | (masks < m) | (values < n * m) | (answers < m)
+}
+
+// 4, 8, 9 by the lengths of what is lent, or 0.
+fn early_number(
+    n: usize,
+    list: usize,
+    clocks: usize,
+    masks: usize,
+    values: usize,
+    answers: usize,
+) -> u8
+    ensures { λ r. ⌜ r ≡ early n list clocks masks values answers ⌝ }
+{
+    if (n < 1) | (32 < n) {
+        return 4;
+    }
+    if (list % 8 != 0) | (4096 < list) {
+        return 8;
+    }
+    if is_scant(n, list / 8, clocks, masks, values, answers) {
+        return 9;
+    }
+    0
+}
+
+// The named slots behind those of k accepted events and their v carried values are set to 0.
+fn tidy(
+    n: usize,
+    m: usize,
+    k: usize,
+    v: usize,
+    clocks: &mut [u16],
+    masks: &mut [u32],
+    values: &mut [u16],
+)
+    requires { ⌜ Tail n m k v (now clocks) (now masks) (now values) ⌝ }
+    ensures { λ _. ⌜ (now (clocks .exit) ≡ sets (now (clocks .entry)) (n * k) (replicate (n * m - n * k) 0))
+        × (now (masks .exit) ≡ sets (now (masks .entry)) k (replicate (m - k) 0))
+        × (now (values .exit) ≡ sets (now (values .entry)) v (replicate (n * m - v) 0)) ⌝ }
+{
+    zero::clear16(clocks, n * k, n * m);
+    zero::clear32(masks, k, m);
+    zero::clear16(values, v, n * m);
+}
+
+// Class mode: each offer of the list is tried, and the course goes on.
+pub fn class(
+    n: usize,
+    list: &[u8],
+    clocks: &mut [u16],
+    masks: &mut [u32],
+    values: &mut [u16],
+    answers: &mut [u8],
+) -> Classed
+    ensures { λ r. ⌜ (classed r, work (now (clocks .exit)) (now (masks .exit)) (now (values .exit)), now (answers .exit))
+        ≡ paper.class n (now (list .entry)) (work (now (clocks .entry)) (now (masks .entry)) (now (values .entry))) (now (answers .entry)) ⌝ }
+{
+    let number = early_number(
+        n,
+        list.len(),
+        clocks.len(),
+        masks.len(),
+        values.len(),
+        answers.len(),
+    );
+    if number != 0 {
+        return Classed::Refused(of_call(number));
+    }
+    let m = list.len() / 8;
+    let t = offers::course(false, n, m, list, clocks, masks, values, answers);
+    tidy(n, m, t.accepted, t.carried, clocks, masks, values);
+    Classed::Done(t.accepted, t.carried)
+}
+
+// The strict course: the first refused event refuses the list.
+pub fn strict(
+    n: usize,
+    list: &[u8],
+    clocks: &mut [u16],
+    masks: &mut [u32],
+    values: &mut [u16],
+) -> Judged
+    ensures { λ r. ⌜ (judged r, work (now (clocks .exit)) (now (masks .exit)) (now (values .exit)))
+        ≡ questions.strict n (now (list .entry)) (work (now (clocks .entry)) (now (masks .entry)) (now (values .entry))) ⌝ }
+{
+    let mut answers = [0u8; 512];
+    let number = early_number(n, list.len(), clocks.len(), masks.len(), values.len(), 512);
+    if number != 0 {
+        return Judged::Refused(of_call(number));
+    }
+    let m = list.len() / 8;
+    let t = offers::course(true, n, m, list, clocks, masks, values, &mut answers);
+    if t.accepted == t.tried {
+        tidy(n, m, t.accepted, t.carried, clocks, masks, values);
+        return Judged::Done(t.carried);
+    }
+    tidy(n, m, 0, 0, clocks, masks, values);
+    let at = t.tried - 1;
+    Judged::Refused(Refusal {
+        number: answers[at],
+        position: Position(at),
+    })
+}

@@ -12,3 +12,4 @@ pub mod Sends
 pub mod Verdict
 pub mod Runs
 pub mod Append
+pub mod Refused

@@ -5,7 +5,7 @@ use mathlib.Core.Path.{_≡_, sym, ap, _∙_}
 use native.Mathlib.Nat.{add-zero, zero-add}
 use native.Mathlib.Omega.{arith}
 use lib.ListN.{getD, set, length, take, drop, replicate, length-append, length-replicate, length-drop, List·getD-append}
-use lib.Seq.{sets, sets-eq, getD-append-add, length-take-le}
+use lib.Seq.{sets, sets-eq, length-sets, getD-append-add, length-take-le, drop-append-add, drop-drop}
 use Rattle.paper.specs.Buffers.{laid}
 
 pub sets-more : (l : List ℕ) (i : ℕ) (vs : List ℕ) (x : ℕ) → sets l i (vs ++ (x ∷ [])) ≡ set (sets l i vs) (i + length vs) x
@@ -41,3 +41,20 @@ sets-laid named xs old h l =
 pub length-laid : (named : ℕ) (xs old : List ℕ) → length xs ≤ named → named ≤ length old → length (laid named xs old) ≡ length old
 unfolding laid
 length-laid named xs old h l = simp (length-append, length-replicate, length-drop) (omega arith)
+
+-- What was stored is cleared again with all named slots.
+pub sets-cleared :
+    (named : ℕ) (xs old : List ℕ) → length xs ≤ named → named ≤ length old → sets (sets old 0 xs) 0 (replicate named 0) ≡ laid named [] old
+unfolding laid
+sets-cleared named xs old h l =
+    let n : length (replicate {A = ℕ} named 0) ≡ named = length-replicate named 0 in
+    let d : xs ++ drop (length xs) old ≡ sets old 0 xs = sym (rw zero-add at (sets-eq xs old 0 (omega arith))) in
+    let e : named ≡ length xs + (named - length xs) = omega arith in
+    let f : drop named (sets old 0 xs) ≡ drop named old =
+    ap (drop named) (sym d) ∙ ap (λ (k : ℕ). drop k (xs ++ drop (length xs) old)) e
+    ∙ drop-append-add xs (drop (length xs) old) (named - length xs) ∙ drop-drop (named - length xs) (length xs) old ∙ ap (λ (k : ℕ). drop k old) (sym e) in
+    let z : named ≡ named - 0 = omega arith in
+    let g : sets (sets old 0 xs) 0 (replicate named 0) ≡ replicate named 0 ++ drop named old =
+    sets-eq (replicate named 0) (sets old 0 xs) 0 (rw (n, length-sets) (omega arith)) ∙ ap (λ (k : ℕ). replicate named 0 ++ drop k (sets old 0 xs)) (zero-add _ ∙ n)
+    ∙ ap (λ (r : List ℕ). replicate named 0 ++ r) f in
+    g ∙ ap (λ (k : ℕ). replicate k 0 ++ drop named old) z

@@ -1,4 +1,3 @@
-use mathlib.Core.Path.{_≡_}
 use borrow.Author.Needs.{needs}
 use Rattle.course.proofs.offers.end_after.Statement.{statement}
 use Rattle.course.proofs.offers.end_after.Tie as tie

@@ -1,0 +1,26 @@
+-- Checks 4, 8, 9 by the lengths of what is lent, and the slots that are left to clear.
+use Prim.Native.Nat.{ℕ, _*_, _/_, _%_, _≤_}
+use mathlib.Core.Bool.{Bool, _||_, not}
+use mathlib.Core.List.{List}
+use lib.Dec.{eqb, ltb}
+use lib.ListN.{length}
+use Rattle.paper.specs.Reading.{wrong-count}
+use Rattle.paper.specs.Refusals.{first}
+
+-- 9.
+abbrev pub scant : ℕ → ℕ → ℕ → ℕ → ℕ → ℕ → Bool
+scant n m clocks masks values answers = ltb clocks (n * m) || ltb masks m || ltb values (n * m) || ltb answers m
+
+abbrev pub early : ℕ → ℕ → ℕ → ℕ → ℕ → ℕ → ℕ
+early n list clocks masks values answers =
+    first (wrong-count n) 4 (first (not (eqb (list % 8) 0) || ltb 4096 list) 8 (first (scant n (list / 8) clocks masks values answers) 9 0))
+
+-- Room for m offers of n processes, of which k are accepted and carry v values.
+pub record Tail (n m k v : ℕ) (clocks masks values : List ℕ) : Type 0 where
+  pub few : n ≤ 32
+  pub short : m ≤ 512
+  pub accepted : k ≤ m
+  pub carried : v ≤ n * m
+  pub clock : n * m ≤ length clocks
+  pub mask : m ≤ length masks
+  pub value : n * m ≤ length values
