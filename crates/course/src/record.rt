@@ -8,7 +8,6 @@ ghost use Rattle.paper.specs.Stamp.{mask, count, values, unpacked, upto};
 ghost use Rattle.paper.specs.Running.{counting, sending, receiving, news};
 ghost use Rattle.course.specs.View.{view, newer};
 ghost use Rattle.course.specs.Walk.{Next};
-use clock::Clock;
 use clock::Process;
 
 pub struct Record {
@@ -93,17 +92,6 @@ pub struct Cut {
 }
 
 impl Record {
-    // All 0 at the start.
-    pub fn fresh() -> Record {
-        let zero = Clock::zero();
-        let parts = zero.parts;
-        Record {
-            clock: parts,
-            updated: parts,
-            sent: parts,
-        }
-    }
-
     // R1: every event of a process is counted first.
     pub fn counted(mut self, by: Process) -> Record
         requires { ⌜ (by .0 < 32) × (part (self .clock) (by .0) < 512) ⌝ }

@@ -1,0 +1,5 @@
+pub mod Laws
+pub mod Slots
+pub mod Faithful
+mod Others
+mod Arguments

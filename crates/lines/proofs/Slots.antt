@@ -1,0 +1,61 @@
+-- The line of an event from its parts as the code puts them, and what it says that the slots fit.
+use Prim.Native.Nat.{ℕ, _+_, _*_, _≤_, _<_}
+use mathlib.Core.Path.{_≡_, refl}
+use mathlib.Core.Bool.{Bool, true, false, cond}
+use mathlib.Core.List.{List, [], _∷_, _++_, append-assoc, flatMap}
+use native.Mathlib.Nat.{mul-suc, mul-le-mul-left}
+use native.Mathlib.Omega.{arith}
+use borrow.Author.Tests.{leb-true, le-leb}
+use lib.Dec.{eqb}
+use lib.ListN.{length, getD, take, drop}
+use Rattle.paper.specs.Bytes.{byte, text}
+use Rattle.paper.specs.Event.{Event, event-at, how-many}
+use Rattle.paper.specs.Listing.{decimal, word, words, letter, event-line}
+use Rattle.paper.proofs.Laws.Tests.{and-both}
+use Rattle.lines.specs.Slots.{kind-letter, event-fields, slot-line, fitting}
+
+letter-is : (e : Event) → kind-letter (e .kind) ∷ [] ≡ letter e
+unfolding kind-letter text
+letter-is e = go (eqb (e .kind) 0) (eqb (e .kind) 1)
+  where
+    go : (a b : Bool) → _≡_ {A = List ℕ} (cond a 73 (cond b 83 82) ∷ []) (cond a (73 ∷ []) (cond b (83 ∷ []) (82 ∷ [])))
+    go true b = refl
+    go false true = refl
+    go false false = refl
+
+pub fields-are :
+    (list : List ℕ) (i : ℕ) {kind process peer low high : ℕ}
+    → kind ≡ byte list (8 * i) → process ≡ byte list (8 * i + 1) → peer ≡ byte list (8 * i + 2) → low ≡ byte list (8 * i + 4) → high ≡ byte list (8 * i + 5)
+    → decimal i ++ text " " ++ (kind-letter kind ∷ []) ++ (word process ++ word peer ++ word (low + 256 * high)) ≡ event-fields i (event-at list (8 * i))
+unfolding event-fields event-at
+fields-are list i k p q l h =
+    let five : 8 * i + 5 ≡ 8 * i + 4 + 1 = omega arith in
+    rw (k, p, q, l, h, five, letter-is (event-at list (8 * i))) (simp append-assoc)
+
+pub line-is :
+    (n : ℕ) (list clocks masks : List ℕ) (i a : ℕ) {mask many : ℕ} → mask ≡ getD masks a 0 → many ≡ n
+    → event-fields i (event-at list (8 * i)) ++ (word mask ++ words (take many (drop (n * a) clocks)) ++ text "\n") ≡ slot-line n list clocks masks i a
+unfolding event-fields slot-line event-line words flatMap
+line-is n list clocks masks i a e f = rw (e, f) (simp append-assoc)
+
+-- The slots of clock a end before those of clock m begin.
+pub slots-end : (n a m : ℕ) → a < m → n * a + n ≤ n * m
+slots-end n a m h = rw (← mul-suc) (mul-le-mul-left n h)
+
+pub record Fitting (n : ℕ) (list clocks masks : List ℕ) : Type 0 where
+  pub few : n ≤ 32
+  pub short : length list ≤ 4096
+  pub clocked : n * how-many list ≤ length clocks
+  pub masked : how-many list ≤ length masks
+
+pub fits : (n : ℕ) (list clocks masks : List ℕ) → fitting n list clocks masks ≡ true → Fitting n list clocks masks
+unfolding fitting
+fits n list clocks masks h =
+    let x = and-both _ _ h in
+    let y = and-both _ _ (x .0) in
+    let z = and-both _ _ (y .0) in
+    record { few = leb-true _ _ (z .0); short = leb-true _ _ (z .1); clocked = leb-true _ _ (y .1); masked = leb-true _ _ (x .1) }
+
+pub fitted : {n : ℕ} {list clocks masks : List ℕ} → Fitting n list clocks masks → fitting n list clocks masks ≡ true
+unfolding fitting
+fitted f = simp (le-leb _ _ (f .few), le-leb _ _ (f .short), le-leb _ _ (f .clocked), le-leb _ _ (f .masked))

@@ -1,0 +1,108 @@
+// The texts that the programs print, built in a lent buffer. A byte behind the buffer's end is no byte of it: the text is cut there.
+ghost use mathlib.Core.Path.{_≡_};
+ghost use Rattle.paper.specs.Listing.{refusal-line};
+ghost use Rattle.clock.specs.Said.{number, refusal};
+ghost use Rattle.lines.specs.Text.{Printed};
+ghost use Rattle.lines.specs.Slots.{listing-text};
+ghost use Rattle.lines.specs.Programs.{verdict-line, chain-text, class-text};
+ghost use Rattle.lines.specs.Number.{number-of};
+
+mod digits;
+mod event;
+mod listing;
+mod programs;
+mod text;
+
+// The listing of an accepted list, its clocks and masks standing in the slots lent.
+pub fn listing_text(
+    n: usize,
+    list: &[u8],
+    clocks: &[u16],
+    masks: &[u32],
+    carried: usize,
+    out: &mut [u8],
+) -> usize
+    ensures { λ r. ⌜ Printed (now (out .entry)) (listing-text n (now (list .entry)) (now (clocks .entry)) (now (masks .entry)) carried) r (now (out .exit)) ⌝ }
+{
+    if !listing::fits(n, list, clocks, masks) {
+        return 0;
+    }
+    let k = listing::put_head(out, list.len() / 8, n, carried);
+    listing::put_events(out, k, n, list, clocks, masks)
+}
+
+// The line of a refusal.
+pub fn refusal_text(r: clock::Refusal, out: &mut [u8]) -> usize
+    ensures { λ k. ⌜ Printed (now (out .entry)) (refusal-line (refusal r)) k (now (out .exit)) ⌝ }
+{
+    let a = text::put_named(out, 0, b"refused", r.number as usize);
+    let b = text::put_named(out, a, b" at", r.position.0);
+    text::put(out, b, b'\n')
+}
+
+// The verdict's number, on a line.
+pub fn verdict_text(v: clock::Verdict, out: &mut [u8]) -> usize
+    ensures { λ r. ⌜ Printed (now (out .entry)) (verdict-line (number v)) r (now (out .exit)) ⌝ }
+{
+    let k = text::put_decimal(out, 0, programs::verdict_number(v));
+    text::put(out, k, b'\n')
+}
+
+// The chain's positions, the first `len` slots, on one line.
+pub fn chain_text(chain: &[u16], len: usize, out: &mut [u8]) -> usize
+    ensures { λ r. ⌜ Printed (now (out .entry)) (chain-text (now (chain .entry)) len) r (now (out .exit)) ⌝ }
+{
+    if clock::Clock::EVENTS < len {
+        return 0;
+    }
+    if chain.len() < len {
+        return 0;
+    }
+    programs::put_chain(out, &chain[0..len])
+}
+
+// What became of each offer of a list.
+pub fn class_text(
+    n: usize,
+    list: &[u8],
+    answers: &[u8],
+    clocks: &[u16],
+    masks: &[u32],
+    accepted: usize,
+    carried: usize,
+    out: &mut [u8],
+) -> usize
+    ensures { λ r. ⌜ Printed (now (out .entry)) (class-text n (now (list .entry)) (now (answers .entry)) (now (clocks .entry)) (now (masks .entry)) accepted carried) r (now (out .exit)) ⌝ }
+{
+    if !listing::fits(n, list, clocks, masks) {
+        return 0;
+    }
+    let m = list.len() / 8;
+    if answers.len() < m {
+        return 0;
+    }
+    let k = programs::put_class_head(out, m, n, accepted, carried);
+    programs::put_offers(out, k, n, list, answers, clocks, masks)
+}
+
+// What an argument says.
+pub enum Number {
+    Is(usize),
+    None,
+}
+
+// A decimal number of 1 to 5 digits, or none.
+pub fn parse(text: &[u8]) -> Number
+    ensures { λ r. ⌜ r ≡ number-of (now (text .entry)) ⌝ }
+{
+    if text.len() < 1 {
+        return Number::None;
+    }
+    if 5 < text.len() {
+        return Number::None;
+    }
+    if digits::all_digits(text) {
+        return Number::Is(digits::value(text));
+    }
+    Number::None
+}

@@ -1,0 +1,77 @@
+use Prim.Native.Nat.{_-_}
+use mathlib.Core.Path.{_∙_}
+use native.Mathlib.Omega.{arith}
+use borrow.Author.Needs.{needs}
+use borrow.Author.Tests.{not-true, not-false}
+use Rattle.sheet.proofs.Compared.{Walked, walk-start, fits, walk-stop, walk-more, walk-end}
+use Rattle.sheet.proofs.stamps.compare.Statement.{statement}
+use Rattle.sheet.proofs.stamps.compare.Tie as tie
+
+abbrev Inv-loop : tie.InvT-loop
+Inv-loop list masks values stamps m at₀ place₀ i₀ at place i = Walked list masks values stamps at place i
+
+abbrev μ-loop : tie.MeasureT-loop
+μ-loop list masks values stamps m at₀ place₀ i₀ at place i = m - i
+
+loop-holds : tie.Need-loop-holds Inv-loop μ-loop
+loop-holds c = walk-start _ _ _ _ (c .before .before .before .before .pre)
+
+mul-mask : tie.Need-mul-mask Inv-loop μ-loop
+mul-mask c = omega (arith, c .before .before .before .before .before .before .before .pre .each-mask)
+
+shared-slice-read-mask : tie.Need-shared-slice-read-mask Inv-loop μ-loop
+shared-slice-read-mask c = omega (arith, c .before .before .before .before .before .before .before .before .pre .each-mask)
+
+same-piece-requires : tie.Need-same-piece-requires Inv-loop μ-loop
+same-piece-requires c κs =
+    let l = c .before .before .before in
+    (l .loop .inv .inside, fits _ _ _ _ (l .before .before .before .before .before .pre) _ _ _ (l .loop .inv) (c .before .before .loop-test .taken))
+
+returns : tie.Need-returns Inv-loop μ-loop
+returns c =
+    let l = c .before .before .before .before .before in
+    walk-stop _ _ _ _ (l .before .before .before .before .before .pre) _ _ _ (l .loop .inv) (c .before .before .before .before .loop-test .taken) _ (c .before .same-piece .ensures) (not-true _ (c .if1 .taken))
+
+add-at : tie.Need-add-at Inv-loop μ-loop
+add-at c = omega (arith, c .before .before .before .before .before .before .loop .inv .inside)
+
+add-place : tie.Need-add-place Inv-loop μ-loop
+add-place c =
+    let l = c .before .before .before .before .before .before .before in
+    omega (arith, fits _ _ _ _ (l .before .before .before .before .before .pre) _ _ _ (l .loop .inv) (c .before .before .before .before .before .before .loop-test .taken))
+
+loop-again : tie.Need-loop-again Inv-loop μ-loop
+loop-again c =
+    let l = c .before .before .before .before .before .before .before in
+    walk-more _ _ _ _ (l .before .before .before .before .before .pre) _ _ _ (l .loop .inv) (c .before .before .before .before .before .before .loop-test .taken) _ (c .before .before .before .same-piece .ensures) _ _
+    (c .before .piece-size .ensures .0) (c .ones-in .ensures .0) (not-false _ (c .before .before .if1 .left))
+
+returns-2 : tie.Need-returns-2 Inv-loop μ-loop
+returns-2 c =
+    let l = c .before .before in
+    let a = l .before .before .before .before .before .args in
+    c .left-over .ensures
+    ∙ walk-end (a .list .now) (a .masks .now) (a .values .now) (a .stamps .now) (l .before .before .before .before .before .pre) _ _ _ (l .loop .inv) (c .before .loop-test .left)
+
+pub compare-spec : {M : Type 1} → statement M
+compare-spec =
+    tie.close
+    (tie.spec
+    Inv-loop
+    μ-loop
+    loop-holds
+    (λ c. search needs)
+    (λ c. search needs)
+    mul-mask
+    shared-slice-read-mask
+    same-piece-requires
+    returns
+    (λ c κs. search needs)
+    add-at
+    (λ c κs. search needs)
+    add-place
+    (λ c. search needs)
+    (λ c. search needs)
+    loop-again
+    (λ c κs. search needs)
+    returns-2)

@@ -1,0 +1,6 @@
+// Sheets: what a header says, recorded stamps compared, and a sheet written.
+mod bytes;
+mod header;
+mod stamps;
+mod writer;
+mod zero;
