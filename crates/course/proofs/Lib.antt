@@ -13,4 +13,6 @@ pub mod Loop
 pub mod Going
 pub mod Clearing
 pub mod Early
+pub mod Emptied
 pub mod Called
+pub mod Passed

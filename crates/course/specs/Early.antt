@@ -1,9 +1,10 @@
 -- Checks 4, 8, 9 by the lengths of what is lent, and the slots that are left to clear.
 use Prim.Native.Nat.{ℕ, _*_, _/_, _%_, _≤_}
-use mathlib.Core.Bool.{Bool, _||_, not}
+use mathlib.Core.Bool.{Bool, _||_, _&&_, not}
 use mathlib.Core.List.{List}
 use lib.Dec.{eqb, ltb}
 use lib.ListN.{length}
+use Rattle.paper.specs.Clock.{most-processes, most-events}
 use Rattle.paper.specs.Reading.{wrong-count}
 use Rattle.paper.specs.Refusals.{first}
 
@@ -14,6 +15,10 @@ scant n m clocks masks values answers = ltb clocks (n * m) || ltb masks m || ltb
 abbrev pub early : ℕ → ℕ → ℕ → ℕ → ℕ → ℕ → ℕ
 early n list clocks masks values answers =
     first (wrong-count n) 4 (first (not (eqb (list % 8) 0) || ltb 4096 list) 8 (first (scant n (list / 8) clocks masks values answers) 9 0))
+
+-- Whether the slots that 9 names for m events of n processes are lent.
+abbrev pub named : ℕ → ℕ → ℕ → ℕ → ℕ → Bool
+named n m clocks masks values = not (ltb most-processes n || ltb most-events m) && not (scant n m clocks masks values m)
 
 -- Room for m offers of n processes, of which k are accepted and carry v values.
 pub record Tail (n m k v : ℕ) (clocks masks values : List ℕ) : Type 0 where

@@ -1,10 +1,13 @@
 -- The paper's outcomes for each case of what is answered here, and the lent work buffers as one.
 use Prim.Native.Nat.{ℕ}
+use mathlib.Core.Bool.{cond}
 use mathlib.Core.List.{List}
+use lib.ListN.{length}
 use Rattle.clock.specs.Said.{refusal}
-use Rattle.paper.specs.Buffers.{Work}
+use Rattle.paper.specs.Buffers.{Work, cleared}
 use Rattle.paper.specs.Class.{Classed}
 use Rattle.paper.specs.Refusals.{Outcome, refused, done}
+use Rattle.course.specs.Early.{named}
 use Rattle.course.specs.declared.Classed as declared-class
 use Rattle.course.specs.declared.Classed.the-variants as class
 use Rattle.course.specs.declared.Judged as declared-judged
@@ -20,3 +23,7 @@ classed (class.Done k v) = done (record { accepted = k; carried = v })
 abbrev pub judged : declared-judged.Judged → Outcome ℕ
 judged (strict.Refused r) = refused (refusal r)
 judged (strict.Done v) = done v
+
+-- The work buffers after a refusal that comes after check 9, where the slots named for m events of n processes are lent.
+abbrev pub late : ℕ → ℕ → Work → Work
+late n m w = cond (named n m (length (w .clocks)) (length (w .masks)) (length (w .values))) (cleared n m w) w

@@ -13,8 +13,9 @@ ghost use Rattle.paper.specs.Class as paper;
 ghost use Rattle.paper.specs.Questions as questions;
 ghost use Rattle.paper.specs.Refusals.{of-call};
 ghost use Rattle.clock.specs.Said.{refusal};
-ghost use Rattle.course.specs.Early.{scant, early, Tail};
-ghost use Rattle.course.specs.Said.{work, classed, judged};
+ghost use Rattle.course.specs.Early.{scant, early, named, Tail};
+ghost use Rattle.course.specs.Said.{work, classed, judged, late};
+use clock::Clock;
 use clock::Position;
 use clock::Refusal;
 
@@ -89,6 +90,26 @@ fn tidy(
     zero::clear16(clocks, n * k, n * m);
     zero::clear32(masks, k, m);
     zero::clear16(values, v, n * m);
+}
+
+// Whether the slots named for m events of n processes are lent.
+fn is_lent(n: usize, m: usize, clocks: usize, masks: usize, values: usize) -> bool
+    ensures { λ r. ⌜ r ≡ named n m clocks masks values ⌝ }
+{
+    if (Clock::PROCESSES < n) | (Clock::EVENTS < m) {
+        return false;
+    }
+    !is_scant(n, m, clocks, masks, values, m)
+}
+
+// What a later refusal does: the slots named for m events of n processes are set to 0, where they are lent.
+pub fn clear(n: usize, m: usize, clocks: &mut [u16], masks: &mut [u32], values: &mut [u16])
+    ensures { λ _. ⌜ work (now (clocks .exit)) (now (masks .exit)) (now (values .exit))
+        ≡ late n m (work (now (clocks .entry)) (now (masks .entry)) (now (values .entry))) ⌝ }
+{
+    if is_lent(n, m, clocks.len(), masks.len(), values.len()) {
+        tidy(n, m, 0, 0, clocks, masks, values);
+    }
 }
 
 // Class mode: each offer of the list is tried, and the course goes on.

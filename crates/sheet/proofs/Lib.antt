@@ -1,6 +1,6 @@
 pub mod Checks
-pub mod Cleared
 pub mod Compared
 pub mod Filled
+pub mod InOrder
 pub mod Slots
 pub mod Stored

@@ -1,3 +1,4 @@
 pub mod Appended
 pub mod Header
 pub mod Slots
+pub mod Said

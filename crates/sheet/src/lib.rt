@@ -1,6 +1,69 @@
-// Sheets: what a header says, recorded stamps compared, and a sheet written.
+// Sheets: read, with every check in its order, and written.
 mod bytes;
 mod header;
+mod reader;
 mod stamps;
 mod writer;
-mod zero;
+
+ghost use mathlib.Core.Path.{_≡_};
+ghost use Rattle.paper.specs.Questions.{writing};
+ghost use Rattle.paper.specs.Reading.{reading};
+ghost use Rattle.course.specs.Said.{work};
+ghost use Rattle.sheet.specs.Said.{told, Where, wrote};
+use clock::Position;
+use clock::Refusal;
+use course::Judged;
+use header::Heading;
+
+// What a sheet says: the process count, where its event list lies, and how many values the stamps carry.
+pub struct Contents {
+    pub processes: usize,
+    pub offset: usize,
+    pub size: usize,
+    pub carried: usize,
+}
+
+// What reading a sheet answers.
+pub enum Reading {
+    Refused(Refusal),
+    Accepted(Contents),
+}
+
+// What writing a sheet answers: how many events, and how many bytes are written.
+pub enum Wrote {
+    Refused(Refusal),
+    Done(usize, usize),
+}
+
+// Reading: 1 to 7, 9, events in order, then stamps.
+pub fn read(sheet: &[u8], clocks: &mut [u16], masks: &mut [u32], values: &mut [u16]) -> Reading
+    ensures { λ r. ⌜ (told (now (sheet .entry)) r, work (now (clocks .exit)) (now (masks .exit)) (now (values .exit)))
+        ≡ reading (now (sheet .entry)) (work (now (clocks .entry)) (now (masks .entry)) (now (values .entry))) ⌝ }
+    ensures { λ r. ⌜ Where (now (sheet .entry)) r ⌝ }
+{
+    match header::head(sheet) {
+        Heading::Refused(number) => Reading::Refused(Refusal {
+            number: number,
+            position: Position(0),
+        }),
+        Heading::Found(p) => reader::judged(sheet, p, clocks, masks, values),
+    }
+}
+
+// Writing: 4, 8, 9, events in order, 21; the events at 24, the stamps straight after.
+pub fn write(
+    n: usize,
+    list: &[u8],
+    clocks: &mut [u16],
+    masks: &mut [u32],
+    values: &mut [u16],
+    out: &mut [u8],
+) -> Wrote
+    ensures { λ r. ⌜ (wrote r, work (now (clocks .exit)) (now (masks .exit)) (now (values .exit)), now (out .exit))
+        ≡ writing n (now (list .entry)) (work (now (clocks .entry)) (now (masks .entry)) (now (values .entry))) (now (out .entry)) ⌝ }
+{
+    match course::strict(n, list, clocks, masks, values) {
+        Judged::Refused(r) => Wrote::Refused(r),
+        Judged::Done(_) => writer::written(n, list, clocks, masks, values, out),
+    }
+}

@@ -9,10 +9,15 @@ ghost use Rattle.paper.specs.Event.{how-many};
 ghost use Rattle.paper.specs.Sheet.{header};
 ghost use Rattle.sheet.specs.Appended.{Appended};
 ghost use Rattle.sheet.specs.Slots.{value-bytes, slot-stamp, kind-piece, kind-size, slot-size, slot-stamps, slot-written, Slots};
+ghost use Rattle.course.specs.Said.{work};
+ghost use Rattle.sheet.specs.Said.{wrote, laying};
+use super::Wrote;
 use super::bytes::ones_in;
 use super::bytes::wide16;
 use super::bytes::wide32;
 use super::stamps::piece_size;
+use clock::Position;
+use clock::Refusal;
 
 fn put(out: &mut [u8], at: usize, b: u8) -> usize
     requires { ⌜ at < length (now out) ⌝ }
@@ -167,4 +172,30 @@ pub(crate) fn put_sheet(
     let a = put_header(out, n, list.len(), stamped);
     let b = put_all(out, a, list);
     put_pieces(out, b, list, masks, values)
+}
+
+// 21, or the sheet of a list whose stamps stand in the work buffers.
+pub(crate) fn written(
+    n: usize,
+    list: &[u8],
+    clocks: &mut [u16],
+    masks: &mut [u32],
+    values: &mut [u16],
+    out: &mut [u8],
+) -> Wrote
+    requires { ⌜ (n < 256) × Slots (now list) (now masks) (now values) × (length (now list) ≤ 4096) ⌝ }
+    ensures { λ r. ⌜ (wrote r, work (now (clocks .exit)) (now (masks .exit)) (now (values .exit)), now (out .exit))
+        ≡ laying n (now (list .entry)) (work (now (clocks .entry)) (now (masks .entry)) (now (values .entry))) (now (out .entry)) ⌝ }
+{
+    let stamped = stamps_size(list, masks);
+    let size = 24 + list.len() + stamped;
+    if out.len() < size {
+        course::clear(n, list.len() / 8, clocks, masks, values);
+        return Wrote::Refused(Refusal {
+            number: 21,
+            position: Position(0),
+        });
+    }
+    put_sheet(out, n as u8, list, masks, values, stamped);
+    Wrote::Done(list.len() / 8, size)
 }
