@@ -1,0 +1,7 @@
+pub mod Rows
+pub mod Accepted
+pub mod Clearing
+pub mod Asked
+pub mod Seeking
+pub mod Walking
+pub mod Answered

@@ -1,0 +1,162 @@
+-- The walk of the chain over the bytes and slots of an accepted list: the scan for the learner, the crossing of its message, and what is stored.
+use Prim.Native.Nat.{ℕ, suc, _+_, _*_, _≤_, _<_}
+use native.Mathlib.Nat.{eq-or-lt-of-le, mul-le-mul, mul-le-mul-left}
+use native.Mathlib.Omega.{arith}
+use mathlib.Core.Path.{_≡_, sym, ap, _∙_}
+use mathlib.Core.Logic.{_≢_, _⊎_, inl, inr}
+use mathlib.Core.Bool.{Bool, true, false, not, false≢true}
+use mathlib.Core.List.{List, [], _∷_, _++_}
+use lib.Dec.{eqb, leb}
+use lib.ListN.{length, getD, set, length-append}
+use lib.Seq.{sets}
+use borrow.Author.Tests.{eqb-true, leb-true, eq-eqb, le-leb, not-true, not-false}
+use Rattle.paper.specs.Bytes.{two}
+use Rattle.paper.specs.Chain.{own-number, learner, sender, chain}
+use Rattle.paper.specs.Clock.{part}
+use Rattle.paper.specs.Event.{Event, event-at, events-of, how-many}
+use Rattle.paper.specs.Machine.{Clocked}
+use Rattle.paper.specs.Order.{event-of, clock-of}
+use Rattle.paper.proofs.Causality.Along.{kept}
+use Rattle.paper.proofs.Causality.Told.{Told}
+use Rattle.paper.proofs.ChainRight.{Right, Crossed, chain-onward}
+use Rattle.paper.proofs.Laws.Sends.{crossing, sender-inside}
+use Rattle.paper.proofs.Laws.Stores.{stored}
+use Rattle.paper.proofs.Laws.Tests.{and-both, and-true}
+use Rattle.order.specs.Stands.{of-list, Stands, Reaches, process-at, knows, Sent}
+
+module _ (n : ℕ) (list clocks : List ℕ) (s : Stands n list clocks) where
+  abbrev es : List Clocked
+  es = of-list n list
+
+  told : Told es
+  told = kept n (s .few) (events-of list) .told
+
+  process : (c : ℕ) → c < how-many list → event-of es c .process ≡ process-at list c
+  unfolding event-at
+  process c h = ap (λ (e : Event). e .process) (s .event c h)
+
+  -- The bytes and the slots of an event of the list.
+  pub there : (c : ℕ) → c < how-many list → (8 * c + 8 ≤ length list) × (n * c + n ≤ length clocks) × (n * c + n ≤ 16384) × (c < 512)
+  there c h =
+      let x : n * suc c ≤ n * how-many list = mul-le-mul-left n h in
+      let y : n * how-many list ≤ 32 * 512 = mul-le-mul (s .few) (s .brief) in
+      (omega (arith, s .bytes), omega (arith, s .slots), omega arith, omega (arith, s .brief))
+
+  module _ (a b : ℕ) (r : Reaches n list a b) where
+    right : Right es a b
+    right = chain-onward n (s .few) (events-of list) a b (omega (arith, s .all, r .to)) (r .leads)
+
+    pub stops :
+        (old : List ℕ) → process-at list b ≡ process-at list a → (0 ≡ length (chain es a b)) × (old ≡ sets old 0 (chain es a b))
+    stops old e =
+        let none : chain es a b ≡ [] = right .same (process b (r .to) ∙ e ∙ sym (process a (r .from))) in
+        (rw none, rw none)
+
+    pub few : (k : ℕ) → k ≡ length (chain es a b) → k < 512
+    few k e = omega (arith, right .few, r .to, s .brief)
+
+    -- Component p of the event at c, where p is a's process.
+    slot : (p c : ℕ) → p ≡ process-at list a → c < how-many list → getD clocks (n * c + p) 0 ≡ part (clock-of es c) (event-of es a .process)
+    slot p c e h =
+        let q : p ≡ event-of es a .process = e ∙ sym (process a (r .from)) in
+        s .clock c p h (rw e (s .process a (r .from))) ∙ ap (λ (k : ℕ). part (clock-of es c) k) q
+
+    module _ (apart : process-at list b ≢ process-at list a) where
+      abbrev found : ℕ
+      found = learner es a b
+
+      crossed : Crossed es a b (sender es found) found
+      crossed = right .crossed (λ q. apart (sym (process b (r .to)) ∙ q ∙ process a (r .from)))
+
+      found-inside : found < how-many list
+      found-inside = omega (arith, crossed .along .1, r .to)
+
+      pub found-there : (f : ℕ) → f ≡ found → (8 * f + 8 ≤ length list) × (f < 512)
+      found-there f is = let t = there found found-inside in (omega (arith, t .0), omega (arith, t .3))
+
+      -- The scan at c has not passed the learner.
+      module _ (p c : ℕ) (e : p ≡ process-at list a) (l : c ≤ found) where
+        pub scan-inside : c < how-many list
+        scan-inside = omega (arith, found-inside)
+
+        own : getD clocks (n * a + p) 0 ≡ own-number es a
+        own = slot p a e (r .from)
+
+        pub scan-more : (t : Bool) → t ≡ knows n list clocks c (process-at list b) p (getD clocks (n * a + p) 0) → not t ≡ true → c + 1 ≤ found
+        scan-more t is h = go (eq-or-lt-of-le l)
+          where
+            here : c ≡ found → knows n list clocks c (process-at list b) p (getD clocks (n * a + p) 0) ≡ true
+            here q =
+                and-true _ _
+                (eq-eqb (process-at list c) (process-at list b)
+                (sym (process c scan-inside) ∙ ap (λ (x : ℕ). event-of es x .process) q ∙ crossed .along .0 ∙ process b (r .to)))
+                (le-leb (getD clocks (n * a + p) 0) (getD clocks (n * c + p) 0) (omega (
+                  arith,
+                  own,
+                  slot p c e scan-inside,
+                  ap (λ (x : ℕ). part (clock-of es x) (event-of es a .process)) q,
+                  crossed .knows,
+                )))
+
+            go : (c ≡ found) ⊎ (c < found) → c + 1 ≤ found
+            go (inl q) = absurd (false≢true (sym (not-true t h) ∙ is ∙ here q))
+            go (inr q) = omega arith
+
+        pub scan-found : (t : Bool) → t ≡ knows n list clocks c (process-at list b) p (getD clocks (n * a + p) 0) → not t ≡ false → c ≡ found
+        scan-found t is h = go (eq-or-lt-of-le l)
+          where
+            go : (c ≡ found) ⊎ (c < found) → c ≡ found
+            go (inl q) = q
+            go (inr q) =
+                let (x, y) = and-both (eqb (process-at list c) (process-at list b)) (leb (getD clocks (n * a + p) 0) (getD clocks (n * c + p) 0)) (sym is ∙ not-false t h) in
+                let k = leb-true (getD clocks (n * a + p) 0) (getD clocks (n * c + p) 0) y in
+                absurd (crossed .none-earlier c q
+                (process c scan-inside ∙ eqb-true (process-at list c) (process-at list b) x ∙ sym (process b (r .to)))
+                (omega (arith, own, slot p c e scan-inside)))
+
+      -- The learner is found, and the number of its message read.
+      module _ (f message : ℕ) (is : f ≡ found) (reads : message ≡ two list (8 * f + 4)) where
+        has-number : message ≡ event-of es found .message
+        unfolding event-at
+        has-number = reads ∙ ap (λ (k : ℕ). two list (8 * k + 4)) is ∙ ap (λ (e : Event). e .message) (sym (s .event found found-inside))
+
+        pub was-sent : (d : ℕ) × Sent list message d
+        unfolding event-at
+        was-sent =
+            let d = sender es found in
+            let x = crossing es d found (crossed .crosses) in
+            let h : d < how-many list = omega (arith, sender-inside es d found (crossed .crosses), s .all) in
+            let e : event-at list (8 * d) ≡ event-of es d = sym (s .event d h) in (
+              d,
+              record {
+                brief = s .brief;
+                bytes = s .bytes;
+                inside = h;
+                kind = ap (λ (e : Event). e .kind) e ∙ x .sends;
+                number = ap (λ (e : Event). e .message) e ∙ x .number ∙ sym has-number;
+              },
+            )
+
+        -- The walk goes on from the send that was found, and puts it at the end.
+        module _ (d : ℕ) (sent : Sent list message d) where
+          sender-is : sender es found ≡ d
+          unfolding event-at
+          sender-is =
+              let x = crossing es (sender es found) found (crossed .crosses) in
+              let e = s .event d (sent .inside) in
+              told .one-send (sender es found) d (x .sends) (ap (λ (e : Event). e .kind) e ∙ sent .kind)
+              (x .number ∙ sym has-number ∙ sym (sent .number) ∙ ap (λ (e : Event). e .message) (sym e))
+
+          pub earlier : d < b
+          earlier = omega (arith, sender-is, told .forward (sender es found) found (crossed .crosses), crossed .along .1)
+
+          pub onward : Reaches n list a d
+          onward = record { from = r .from; to = sent .inside; leads = rw sender-is at (crossed .onward) }
+
+          pub turn :
+              (old out : List ℕ) (k : ℕ) → k ≡ length (chain es a d) → out ≡ sets old 0 (chain es a d)
+              → (k + 1 ≡ length (chain es a b)) × (set out k d ≡ sets old 0 (chain es a b))
+          turn old out k h q =
+              let more : chain es a b ≡ chain es a d ++ (d ∷ []) = rw sender-is at (crossed .chain-is) in
+              let z : 0 + k ≡ k = omega arith in
+              (rw more (omega (arith, length-append (chain es a d) (d ∷ []))), rw more (rw z at (stored out old 0 k d (chain es a d) q h)))

@@ -1,0 +1,10 @@
+use borrow.Author.Needs.{needs}
+use Rattle.order.proofs.path.is_send_of.Statement.{statement}
+use Rattle.order.proofs.path.is_send_of.Tie as tie
+
+returns : tie.Need-returns
+returns c = rw (c .before .before .before .message-at .ensures)
+
+pub is-send-of-spec : {M : Type 1} → statement M
+is-send-of-spec =
+    tie.close (tie.spec (λ c κs. search needs) (λ c. search needs) (λ c. search needs) returns)

@@ -1,0 +1,40 @@
+use borrow.Author.Needs.{needs}
+use Prim.Native.Nat.{_-_}
+use native.Mathlib.Omega.{arith}
+use Rattle.course.proofs.Clearing.{Cleared, clear-start, clear-more}
+use Rattle.order.proofs.Clearing.{all-cleared}
+use Rattle.order.proofs.zero.clear16.Statement.{statement}
+use Rattle.order.proofs.zero.clear16.Tie as tie
+
+abbrev Inv-loop : tie.InvT-loop
+Inv-loop slots₀ named i₀ slots i = Cleared slots₀ 0 named slots i
+
+abbrev μ-loop : tie.MeasureT-loop
+μ-loop slots₀ named i₀ slots i = named - i
+
+loop-holds : tie.Need-loop-holds Inv-loop μ-loop
+loop-holds c = clear-start (omega arith)
+
+loop-again : tie.Need-loop-again Inv-loop μ-loop
+loop-again c = clear-more (c .before .loop .inv) (c .loop-test .taken)
+
+same-length : tie.Need-same-length Inv-loop μ-loop
+same-length c = c .before .loop .inv .long
+
+returns : tie.Need-returns Inv-loop μ-loop
+returns c = all-cleared _ _ _ _ (c .before .before .pre) (c .before .loop .inv) (c .loop-test .left)
+
+pub clear16-spec : {M : Type 1} → statement M
+clear16-spec =
+    tie.close
+    (tie.spec
+    Inv-loop
+    μ-loop
+    loop-holds
+    (λ c. search needs)
+    (λ c. search needs)
+    (λ c. search needs)
+    (λ c. search needs)
+    loop-again
+    same-length
+    returns)

@@ -1,0 +1,77 @@
+-- What stands in the slots of an accepted list, and what the walk of the chain goes by.
+use Prim.Native.Nat.{ℕ, _+_, _*_, _≤_, _<_}
+use mathlib.Core.Bool.{Bool, _&&_, not}
+use mathlib.Core.List.{List}
+use mathlib.Core.Logic.{_⊎_}
+use mathlib.Core.Path.{_≡_}
+use lib.Dec.{eqb, ltb, leb}
+use lib.ListN.{length, getD, take, drop}
+use Rattle.paper.specs.Bytes.{byte, two}
+use Rattle.paper.specs.Chain.{chain}
+use Rattle.paper.specs.Clock.{part}
+use Rattle.paper.specs.Event.{event-at, events-of, how-many}
+use Rattle.paper.specs.Machine.{Clocked, start, clocked}
+use Rattle.paper.specs.Order.{event-of, clock-of, Before}
+use Rattle.paper.specs.Refusals.{first}
+
+-- The accepted events of a list.
+abbrev pub of-list : ℕ → List ℕ → List Clocked
+of-list n list = clocked n start (events-of list)
+
+-- Every event of the list is accepted, and their clocks stand in the slots one after another, n slots each.
+pub record Stands (n : ℕ) (list clocks : List ℕ) : Type 0 where
+  pub some : 1 ≤ n
+  pub few : n ≤ 32
+  pub brief : how-many list ≤ 512
+  pub bytes : 8 * how-many list ≤ length list
+  pub slots : n * how-many list ≤ length clocks
+  pub all : length (of-list n list) ≡ how-many list
+  pub event : (a : ℕ) → a < how-many list → event-of (of-list n list) a ≡ event-at list (8 * a)
+  pub process : (a : ℕ) → a < how-many list → byte list (8 * a + 1) < n
+  pub clock : (a k : ℕ) → a < how-many list → k < n → getD clocks (n * a + k) 0 ≡ part (clock-of (of-list n list) a) k
+
+-- The n slots of the event at a.
+abbrev pub row : ℕ → List ℕ → ℕ → List ℕ
+row n clocks a = take n (drop (n * a) clocks)
+
+-- The slots named for m events of n processes are there.
+pub record Named (n m : ℕ) (clocks masks values : List ℕ) : Type 0 where
+  pub few : n ≤ 32
+  pub brief : m ≤ 512
+  pub clock : n * m ≤ length clocks
+  pub mask : m ≤ length masks
+  pub value : n * m ≤ length values
+
+-- The event at a is that at b, or before it.
+pub record Reaches (n : ℕ) (list : List ℕ) (a b : ℕ) : Type 0 where
+  pub from : a < how-many list
+  pub to : b < how-many list
+  pub leads : (a ≡ b) ⊎ Before (of-list n list) a b
+
+-- The positions of the chain's sends, in causal order.
+abbrev pub sends : ℕ → List ℕ → ℕ → ℕ → List ℕ
+sends n list a b = chain (of-list n list) a b
+
+-- The process of the event at a.
+abbrev pub process-at : List ℕ → ℕ → ℕ
+process-at list a = byte list (8 * a + 1)
+
+-- Whether the event at c is on that process, and its component p is at least that own number.
+abbrev pub knows : ℕ → List ℕ → List ℕ → ℕ → ℕ → ℕ → ℕ → Bool
+knows n list clocks c process p own = eqb (process-at list c) process && leb own (getD clocks (n * c + p) 0)
+
+-- Whether the event at c is a send of that number.
+abbrev pub is-send-of : List ℕ → ℕ → ℕ → Bool
+is-send-of list c message = eqb (byte list (8 * c)) 1 && eqb (two list (8 * c + 4)) message
+
+-- The event at s is a send of that number.
+pub record Sent (list : List ℕ) (message s : ℕ) : Type 0 where
+  pub brief : how-many list ≤ 512
+  pub bytes : 8 * how-many list ≤ length list
+  pub inside : s < how-many list
+  pub kind : byte list (8 * s) ≡ 1
+  pub number : two list (8 * s + 4) ≡ message
+
+-- 22 of a verdict, then 21 of so many slots, or 0.
+abbrev pub late : ℕ → ℕ → ℕ
+late verdict slots = first (not (eqb verdict 1)) 22 (first (ltb slots 512) 21 0)

@@ -1,0 +1,138 @@
+// Questions on a list: which of two events is before the other, and by which messages.
+mod path;
+mod zero;
+
+ghost use mathlib.Core.Path.{_≡_};
+ghost use Prim.Native.Nat.{_+_, _*_, _≤_, _<_};
+ghost use lib.ListN.{length};
+ghost use Rattle.paper.specs.Buffers.{cleared};
+ghost use Rattle.paper.specs.Order.{verdict};
+ghost use Rattle.paper.specs.Questions.{comparing, chaining};
+ghost use Rattle.paper.specs.Refusals.{of-call};
+ghost use Rattle.clock.specs.Said.{refusal, number};
+ghost use Rattle.course.specs.Said.{work};
+ghost use Rattle.order.specs.Said.{compared, chained};
+ghost use Rattle.order.specs.Stands.{Named, row, late};
+use clock::Ordered;
+use clock::Position;
+use clock::Refusal;
+use clock::Verdict;
+use course::Judged;
+
+// What comparing two events of a list answers.
+pub enum Compared {
+    Refused(Refusal),
+    Judged(Verdict),
+}
+
+// What asking for the chain from one event to another answers: how many sends it has.
+pub enum Chained {
+    Refused(Refusal),
+    Length(usize),
+}
+
+// A refusal after the events: the slots named for m events of n processes are set to 0.
+fn refuse(
+    given: u8,
+    n: usize,
+    m: usize,
+    clocks: &mut [u16],
+    masks: &mut [u32],
+    values: &mut [u16],
+) -> Refusal
+    requires { ⌜ Named n m (now clocks) (now masks) (now values) ⌝ }
+    ensures { λ r. ⌜ (refusal r ≡ of-call given)
+        × (work (now (clocks .exit)) (now (masks .exit)) (now (values .exit))
+        ≡ cleared n m (work (now (clocks .entry)) (now (masks .entry)) (now (values .entry)))) ⌝ }
+{
+    zero::clear16(clocks, n * m);
+    zero::clear32(masks, m);
+    zero::clear16(values, n * m);
+    Refusal {
+        number: given,
+        position: Position(0),
+    }
+}
+
+// The verdict on the clocks of two events, whose n slots each begin at n times the position.
+fn judge(n: usize, clocks: &[u16], first: Position, second: Position) -> Verdict
+    requires { ⌜ (1 ≤ n) × (n ≤ 32) × (first .0 < 512) × (second .0 < 512)
+        × (n * first .0 + n ≤ length (now clocks)) × (n * second .0 + n ≤ length (now clocks)) ⌝ }
+    ensures { λ r. ⌜ number r ≡ verdict n (row n (now (clocks .entry)) (first .0)) (row n (now (clocks .entry)) (second .0)) ⌝ }
+{
+    let a = n * first.0;
+    let b = n * second.0;
+    match clock::order(&clocks[a..a + n], &clocks[b..b + n]) {
+        Ordered::Refused(_) => Verdict::Neither,
+        Ordered::Judged(v) => v,
+    }
+}
+
+// The verdict on two events of a list.
+pub fn compare(
+    n: usize,
+    list: &[u8],
+    clocks: &mut [u16],
+    masks: &mut [u32],
+    values: &mut [u16],
+    first: Position,
+    second: Position,
+) -> Compared
+    ensures { λ r. ⌜ (compared r, work (now (clocks .exit)) (now (masks .exit)) (now (values .exit)))
+        ≡ comparing n (now (list .entry)) (work (now (clocks .entry)) (now (masks .entry)) (now (values .entry))) (first .0) (second .0) ⌝ }
+{
+    let course = course::strict(n, list, clocks, masks, values);
+    match course {
+        Judged::Refused(r) => Compared::Refused(r),
+        Judged::Done(_) => {
+            let m = list.len() / 8;
+            if !(first.0 < m) | !(second.0 < m) {
+                return Compared::Refused(refuse(20, n, m, clocks, masks, values));
+            }
+            Compared::Judged(judge(n, clocks, first, second))
+        }
+    }
+}
+
+// 22 where the first is not before the second, 21 where the output has fewer than 512 slots, or 0.
+fn late_number(v: Verdict, slots: usize) -> u8
+    ensures { λ r. ⌜ r ≡ late (number v) slots ⌝ }
+{
+    match v {
+        Verdict::Before => {
+            if slots < 512 {
+                return 21;
+            }
+            0
+        }
+        Verdict::After => 22,
+        Verdict::Neither => 22,
+    }
+}
+
+// The chain from one event of a list to another: the positions of its sends, at the front of the output.
+pub fn chain(
+    n: usize,
+    list: &[u8],
+    clocks: &mut [u16],
+    masks: &mut [u32],
+    values: &mut [u16],
+    first: Position,
+    second: Position,
+    out: &mut [u16],
+) -> Chained
+    ensures { λ r. ⌜ (chained r, work (now (clocks .exit)) (now (masks .exit)) (now (values .exit)), now (out .exit))
+        ≡ chaining n (now (list .entry)) (work (now (clocks .entry)) (now (masks .entry)) (now (values .entry))) (first .0) (second .0) (now (out .entry)) ⌝ }
+{
+    let asked = compare(n, list, clocks, masks, values, first, second);
+    match asked {
+        Compared::Refused(r) => Chained::Refused(r),
+        Compared::Judged(v) => {
+            let late = late_number(v, out.len());
+            if late != 0 {
+                return Chained::Refused(refuse(late, n, list.len() / 8, clocks, masks, values));
+            }
+            Chained::Length(path::walk(n, list, clocks, first, second, out))
+        }
+    }
+}
