@@ -12,7 +12,7 @@ use lib.Seq.{drop-at}
 use borrow.Author.Tests.{eqb-false, ne-eqb, le-ltb}
 use Rattle.paper.specs.Buffers.{Work, laid, clock-slots, mask-slots, value-slots, entries, filled, cleared, after-call}
 use Rattle.paper.specs.Event.{events-of, how-many}
-use Rattle.paper.specs.Machine.{Clocked, start, clocked}
+use Rattle.paper.specs.Machine.{Clocked, start}
 use Rattle.paper.specs.Questions.{list-refusal, strict}
 use Rattle.paper.specs.Refusals.{Refusal, _then_, Outcome, refused, done, outcome}
 use Rattle.paper.specs.Stamp.{stamps, stamps-after}
@@ -23,11 +23,7 @@ use Rattle.paper.proofs.Lent.Stamps.{SlotsFit, slots-fit}
 use Rattle.paper.proofs.RoundTrip.{list-accepted}
 use Rattle.paper.proofs.Sheets.Checks.{is-done, Room}
 use Rattle.paper.proofs.Sheets.Layout.{Given}
-use Rattle.course.specs.Said.{late}
-
--- The accepted events of a list.
-abbrev pub of-list : ℕ → List ℕ → List Clocked
-of-list n list = clocked n start (events-of list)
+use Rattle.course.specs.Said.{late, of-list}
 
 -- A call is refused exactly by a refusal whose number is not 0.
 pub is-refused : {A : Type 0} (r : Refusal) (a : A) (given : Refusal) → refused given ≡ outcome r a → (r .number ≢ 0) × (given ≡ r)

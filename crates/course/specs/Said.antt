@@ -6,6 +6,8 @@ use lib.ListN.{length}
 use Rattle.clock.specs.Said.{refusal}
 use Rattle.paper.specs.Buffers.{Work, cleared}
 use Rattle.paper.specs.Class.{Classed}
+use Rattle.paper.specs.Event.{events-of}
+use Rattle.paper.specs.Machine.{Clocked, start, clocked}
 use Rattle.paper.specs.Refusals.{Outcome, refused, done}
 use Rattle.course.specs.Early.{named}
 use Rattle.course.specs.declared.Classed as declared-class
@@ -27,3 +29,7 @@ judged (strict.Done v) = done v
 -- The work buffers after a refusal that comes after check 9, where the slots named for m events of n processes are lent.
 abbrev pub late : ℕ → ℕ → Work → Work
 late n m w = cond (named n m (length (w .clocks)) (length (w .masks)) (length (w .values))) (cleared n m w) w
+
+-- The accepted events of a list.
+abbrev pub of-list : ℕ → List ℕ → List Clocked
+of-list n list = clocked n start (events-of list)

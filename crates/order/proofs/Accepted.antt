@@ -19,7 +19,8 @@ use Rattle.paper.proofs.Laws.Runs.{along, clocked-all, length-events}
 use Rattle.paper.proofs.Lent.Stamps.{slots-fit}
 use Rattle.paper.proofs.Sheets.Layout.{Given}
 use Rattle.paper.proofs.Sizes.{sized}
-use Rattle.order.specs.Stands.{of-list, Stands}
+use Rattle.course.specs.Said.{of-list}
+use Rattle.order.specs.Stands.{Stands}
 
 -- Where every answer is 0, the accepted events are those offered.
 same-events : (n : ℕ) (os : List Event) (s : State) → answers n s os ≡ replicate (length os) 0 → map (λ (c : Clocked). c .event) (clocked n s os) ≡ os

@@ -10,15 +10,17 @@ use lib.Dec.{eqb, ltb}
 use lib.ListN.{length}
 use lib.Seq.{sets, sets-eq}
 use borrow.Author.Tests.{eqb-false, ne-eqb}
-use Rattle.paper.specs.Buffers.{Work, laid, cleared, written-to}
+use Rattle.paper.specs.Buffers.{Work, laid, written-to}
 use Rattle.paper.specs.Event.{events-of, how-many}
 use Rattle.paper.specs.Questions.{list-refusal, list-work, no-such, judged, comparing-refusal, comparing, chaining-refusal, chaining}
 use Rattle.paper.specs.Refusals.{first, Refusal, of-call, _then_, Outcome, refused, done}
 use Rattle.paper.proofs.Laws.Refused.{after-done}
 use Rattle.paper.proofs.Sheets.Checks.{not-below, below, equal, neither, in-order, last, both, is-done}
 use Rattle.paper.proofs.Verdicts.{verdict-right}
-use Rattle.order.specs.Stands.{of-list, Stands, Reaches, sends, late}
-use Rattle.order.proofs.Asked.{is-refused, Passed, passed, passed-stands, late-work}
+use Rattle.course.specs.Said.{late, of-list}
+use Rattle.course.proofs.Passed.{is-refused, Passed, late-cleared}
+use Rattle.order.specs.Stands.{Stands, Reaches, sends, past-20}
+use Rattle.order.proofs.Asked.{passed, passed-stands}
 use Rattle.order.proofs.Walking.{few}
 
 -- The checks after 20 are reached exactly where those up to 20 pass.
@@ -41,7 +43,7 @@ written : (xs old : List ℕ) → length xs ≤ length old → sets old 0 xs ≡
 unfolding laid
 written xs old h = let z : length xs - length xs ≡ 0 = omega arith in sets-eq xs old 0 (omega arith) ∙ rw (zero-add, z, append-nil)
 
-late-number : (v slots : ℕ) → late v slots ≢ 0 → 9 < late v slots
+late-number : (v slots : ℕ) → past-20 v slots ≢ 0 → 9 < past-20 v slots
 late-number v slots = go (not (eqb v 1)) (ltb slots 512)
   where
     go : (x y : Bool) → first x 22 (first y 21 0) ≢ 0 → 9 < first x 22 (first y 21 0)
@@ -67,7 +69,7 @@ module _ (n : ℕ) (list : List ℕ) (w : Work) (a b v : ℕ) (w′ : Work) (h :
 
 module _ (n : ℕ) (list : List ℕ) (w : Work) (a b : ℕ) (out : List ℕ) where
   abbrev later : ℕ
-  later = late (judged n (of-list n list) a b) (length out)
+  later = past-20 (judged n (of-list n list) a b) (length out)
 
   still : comparing-refusal n list w a b .number ≢ 0 → chaining-refusal n list w a b out ≡ comparing-refusal n list w a b
   unfolding comparing-refusal chaining-refusal
@@ -86,19 +88,19 @@ module _ (n : ℕ) (list : List ℕ) (w : Work) (a b : ℕ) (out : List ℕ) whe
       rw (still z, ne-eqb (r .number) 0 z) (λ i. (refused (q i), x i, out))
 
   module _ (v : ℕ) (w′ : Work) (h : (done v, w′) ≡ comparing n list w a b) where
-    is : chaining-refusal n list w a b out ≡ of-call (late v (length out))
-    is = let (z, e) = answered n list w a b v w′ h in goes z ∙ ap (λ (x : ℕ). of-call (late x (length out))) e
+    is : chaining-refusal n list w a b out ≡ of-call (past-20 v (length out))
+    is = let (z, e) = answered n list w a b v w′ h in goes z ∙ ap (λ (x : ℕ). of-call (past-20 x (length out))) e
 
     -- 22 and 21.
     pub chain-late :
-        (k : ℕ) (given : Refusal) (w″ : Work) → k ≡ late v (length out) → k ≢ 0 → given ≡ of-call k → w″ ≡ cleared n (how-many list) w′
+        (k : ℕ) (given : Refusal) (w″ : Work) → k ≡ past-20 v (length out) → k ≢ 0 → given ≡ of-call k → w″ ≡ late n (how-many list) w′
         → (refused given, w″, out) ≡ chaining n list w a b out
     unfolding chaining written-to
     chain-late k given w″ e z g q =
-        let x = late-work n list w w′ (compare-passed n list w a b v w′ h) k w″ (rw e (late-number v (length out) (rw e at z))) q in
+        let x = q ∙ late-cleared n list w w′ (compare-passed n list w a b v w′ h) k (rw e (late-number v (length out) (rw e at z))) in
         rw (is, ← e, ne-eqb k 0 z) (λ i. (refused (g i), x i, out))
 
-    module _ (k : ℕ) (e : k ≡ late v (length out)) (z : k ≡ 0) where
+    module _ (k : ℕ) (e : k ≡ past-20 v (length out)) (z : k ≡ 0) where
       ready : (v ≡ 1) × (512 ≤ length out)
       ready =
           in-order (not (eqb v 1)) 22 (first (ltb (length out) 512) 21 0) (omega arith) (equal v 1)

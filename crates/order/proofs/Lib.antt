@@ -1,6 +1,5 @@
 pub mod Rows
 pub mod Accepted
-pub mod Clearing
 pub mod Asked
 pub mod Seeking
 pub mod Walking

@@ -12,7 +12,8 @@ use Rattle.paper.specs.Event.{how-many}
 use Rattle.paper.specs.Questions.{ordering}
 use Rattle.paper.specs.Refusals.{Refusal, Outcome, refused, done}
 use Rattle.paper.proofs.Laws.Verdict.{verdict-within}
-use Rattle.order.specs.Stands.{of-list, Stands, row}
+use Rattle.course.specs.Said.{of-list}
+use Rattle.order.specs.Stands.{Stands, row}
 
 module _ (n a b : ℕ) (clocks : List ℕ) (some : 1 ≤ n) (few : n ≤ 32) (h : a + n ≤ length clocks) (l : b + n ≤ length clocks) where
   rows : ordering (take (a + n - a) (drop a clocks)) (take (b + n - b) (drop b clocks)) ≡ done (verdict n (take n (drop a clocks)) (take n (drop b clocks)))

@@ -22,7 +22,8 @@ use Rattle.paper.proofs.ChainRight.{Right, Crossed, chain-onward}
 use Rattle.paper.proofs.Laws.Sends.{crossing, sender-inside}
 use Rattle.paper.proofs.Laws.Stores.{stored}
 use Rattle.paper.proofs.Laws.Tests.{and-both, and-true}
-use Rattle.order.specs.Stands.{of-list, Stands, Reaches, process-at, knows, Sent}
+use Rattle.course.specs.Said.{of-list}
+use Rattle.order.specs.Stands.{Stands, Reaches, process-at, knows, Sent}
 
 module _ (n : ℕ) (list clocks : List ℕ) (s : Stands n list clocks) where
   abbrev es : List Clocked

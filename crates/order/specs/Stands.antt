@@ -9,14 +9,10 @@ use lib.ListN.{length, getD, take, drop}
 use Rattle.paper.specs.Bytes.{byte, two}
 use Rattle.paper.specs.Chain.{chain}
 use Rattle.paper.specs.Clock.{part}
-use Rattle.paper.specs.Event.{event-at, events-of, how-many}
-use Rattle.paper.specs.Machine.{Clocked, start, clocked}
+use Rattle.paper.specs.Event.{event-at, how-many}
 use Rattle.paper.specs.Order.{event-of, clock-of, Before}
 use Rattle.paper.specs.Refusals.{first}
-
--- The accepted events of a list.
-abbrev pub of-list : ℕ → List ℕ → List Clocked
-of-list n list = clocked n start (events-of list)
+use Rattle.course.specs.Said.{of-list}
 
 -- Every event of the list is accepted, and their clocks stand in the slots one after another, n slots each.
 pub record Stands (n : ℕ) (list clocks : List ℕ) : Type 0 where
@@ -33,14 +29,6 @@ pub record Stands (n : ℕ) (list clocks : List ℕ) : Type 0 where
 -- The n slots of the event at a.
 abbrev pub row : ℕ → List ℕ → ℕ → List ℕ
 row n clocks a = take n (drop (n * a) clocks)
-
--- The slots named for m events of n processes are there.
-pub record Named (n m : ℕ) (clocks masks values : List ℕ) : Type 0 where
-  pub few : n ≤ 32
-  pub brief : m ≤ 512
-  pub clock : n * m ≤ length clocks
-  pub mask : m ≤ length masks
-  pub value : n * m ≤ length values
 
 -- The event at a is that at b, or before it.
 pub record Reaches (n : ℕ) (list : List ℕ) (a b : ℕ) : Type 0 where
@@ -73,5 +61,5 @@ pub record Sent (list : List ℕ) (message s : ℕ) : Type 0 where
   pub number : two list (8 * s + 4) ≡ message
 
 -- 22 of a verdict, then 21 of so many slots, or 0.
-abbrev pub late : ℕ → ℕ → ℕ
-late verdict slots = first (not (eqb verdict 1)) 22 (first (ltb slots 512) 21 0)
+abbrev pub past-20 : ℕ → ℕ → ℕ
+past-20 verdict slots = first (not (eqb verdict 1)) 22 (first (ltb slots 512) 21 0)

@@ -1,18 +1,16 @@
 // Questions on a list: which of two events is before the other, and by which messages.
 mod path;
-mod zero;
 
 ghost use mathlib.Core.Path.{_≡_};
 ghost use Prim.Native.Nat.{_+_, _*_, _≤_, _<_};
 ghost use lib.ListN.{length};
-ghost use Rattle.paper.specs.Buffers.{cleared};
 ghost use Rattle.paper.specs.Order.{verdict};
 ghost use Rattle.paper.specs.Questions.{comparing, chaining};
 ghost use Rattle.paper.specs.Refusals.{of-call};
 ghost use Rattle.clock.specs.Said.{refusal, number};
-ghost use Rattle.course.specs.Said.{work};
+ghost use Rattle.course.specs.Said.{work, late};
 ghost use Rattle.order.specs.Said.{compared, chained};
-ghost use Rattle.order.specs.Stands.{Named, row, late};
+ghost use Rattle.order.specs.Stands.{past-20, row};
 use clock::Ordered;
 use clock::Position;
 use clock::Refusal;
@@ -40,14 +38,11 @@ fn refuse(
     masks: &mut [u32],
     values: &mut [u16],
 ) -> Refusal
-    requires { ⌜ Named n m (now clocks) (now masks) (now values) ⌝ }
     ensures { λ r. ⌜ (refusal r ≡ of-call given)
         × (work (now (clocks .exit)) (now (masks .exit)) (now (values .exit))
-        ≡ cleared n m (work (now (clocks .entry)) (now (masks .entry)) (now (values .entry)))) ⌝ }
+        ≡ late n m (work (now (clocks .entry)) (now (masks .entry)) (now (values .entry)))) ⌝ }
 {
-    zero::clear16(clocks, n * m);
-    zero::clear32(masks, m);
-    zero::clear16(values, n * m);
+    course::clear(n, m, clocks, masks, values);
     Refusal {
         number: given,
         position: Position(0),
@@ -96,7 +91,7 @@ pub fn compare(
 
 // 22 where the first is not before the second, 21 where the output has fewer than 512 slots, or 0.
 fn late_number(v: Verdict, slots: usize) -> u8
-    ensures { λ r. ⌜ r ≡ late (number v) slots ⌝ }
+    ensures { λ r. ⌜ r ≡ past-20 (number v) slots ⌝ }
 {
     match v {
         Verdict::Before => {

@@ -6,7 +6,8 @@ ghost use lib.ListN.{length};
 ghost use lib.Seq.{sets};
 ghost use Rattle.paper.specs.Bytes.{two};
 ghost use Rattle.paper.specs.Chain as paper;
-ghost use Rattle.order.specs.Stands.{of-list, Stands, Reaches, sends, process-at, knows, is-send-of, Sent};
+ghost use Rattle.course.specs.Said.{of-list};
+ghost use Rattle.order.specs.Stands.{Stands, Reaches, sends, process-at, knows, is-send-of, Sent};
 use clock::Message;
 use clock::Position;
 

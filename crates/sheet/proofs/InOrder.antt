@@ -19,8 +19,8 @@ use Rattle.paper.specs.Refusals.{first, Refusal, of-call, _then_, Outcome, refu
 use Rattle.paper.specs.Sheet.{processes-in, list-offset, list-size, list-in, stamps-in, pieces, written}
 use Rattle.paper.proofs.Laws.Refused.{after-done, after-early}
 use Rattle.paper.proofs.Sheets.Header.{Header, header-says}
-use Rattle.course.specs.Said.{late}
-use Rattle.course.proofs.Passed.{of-list, is-refused, passed-on, Passed, strict-passed, late-cleared, late-refused}
+use Rattle.course.specs.Said.{late, of-list}
+use Rattle.course.proofs.Passed.{is-refused, passed-on, Passed, strict-passed, late-cleared, late-refused}
 use Rattle.sheet.specs.Appended.{Appended}
 use Rattle.sheet.specs.declared.header.Part.{Part}
 use Rattle.sheet.specs.declared.header.Parts.{Parts}

@@ -6,8 +6,7 @@ use Rattle.paper.specs.Refusals.{done}
 use Rattle.clock.specs.Said.{number}
 use Rattle.course.specs.Said.{work}
 use Rattle.order.specs.Said.{compared}
-use Rattle.order.proofs.Answered.{compare-passed, chain-refused, chain-late, chain-reaches, chain-done}
-use Rattle.order.proofs.Asked.{named}
+use Rattle.order.proofs.Answered.{chain-refused, chain-late, chain-reaches, chain-done}
 use borrow.Author.Needs.{needs}
 use Rattle.order.proofs.chain.Statement.{statement}
 use Rattle.order.proofs.chain.Tie as tie
@@ -22,9 +21,6 @@ judged :
     (done (number (c .before .asked2 .given .0 .0)), slots (c .before .before .before .before .before .before .before .before .before))
     ≡ comparing (a .n) (now (a .list)) (work (now (a .clocks)) (now (a .masks)) (now (a .values))) (a .first .0) (a .second .0)
 judged c = ap (λ r. (compared r, slots (c .before .before .before .before .before .before .before .before .before))) (sym (c .before .asked2 .given .1)) ∙ c .before .before .before .before .before .before .before .before .before .compare .ensures
-
-refuse-requires : tie.Need-refuse-requires
-refuse-requires c κs = named _ _ _ _ (compare-passed _ _ _ _ _ _ _ (judged (c .before .before .before .before .before)))
 
 returns : tie.Need-returns
 returns c = let r = c .before .before .before .before .before .before .refuse .ensures in
@@ -48,7 +44,7 @@ chain-spec =
     (λ c. search needs)
     (λ c. search needs)
     (λ c κs. search needs)
-    refuse-requires
+    (λ c κs. search needs)
     (λ c. search needs)
     (λ c. search needs)
     (λ c. search needs)

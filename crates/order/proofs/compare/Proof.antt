@@ -2,7 +2,8 @@ use mathlib.Core.Path.{ap, sym, _∙_}
 use denote.Ref.{now}
 use Rattle.course.specs.Said.{judged, work}
 use Rattle.paper.specs.Buffers.{Work}
-use Rattle.order.proofs.Asked.{Passed, strict-passed, named, compare-refused, compare-none, rows-there, compare-done}
+use Rattle.course.proofs.Passed.{Passed, strict-passed}
+use Rattle.order.proofs.Asked.{compare-refused, compare-none, rows-there, compare-done}
 use borrow.Author.Needs.{needs}
 use Rattle.order.proofs.compare.Statement.{statement}
 use Rattle.order.proofs.compare.Tie as tie
@@ -12,10 +13,7 @@ abbrev slots : tie.After-strict → Work
 slots c = let t = c .strict .last in work (t .1 .1 .0) (t .1 .1 .1 .0) (t .1 .1 .1 .1 .0)
 
 passed : (c : tie.After-enum-told) → let a = c .before .before .before .before .before .before .before .before .before .before .before .before .before .before .before .before .args in Passed (a .n) (now (a .list)) (work (now (a .clocks)) (now (a .masks)) (now (a .values))) (slots (c .before .before .before .before .before .before .before .before))
-passed c = strict-passed _ _ _ _ _ (ap (λ r. (judged r, slots (c .before .before .before .before .before .before .before .before))) (sym (c .enum-told .given .1)) ∙ c .before .before .before .before .before .before .before .before .strict .ensures)
-
-refuse-requires : tie.Need-refuse-requires
-refuse-requires c κs = named _ _ _ _ (passed (c .before .before .before .before .before .before))
+passed c = strict-passed _ _ _ _ _ (ap (λ r. (judged r, slots (c .before .before .before .before .before .before .before .before))) (sym (c .enum-told .given .1)) ∙ c .before .before .before .before .before .before .before .before .strict .ensures) .0
 
 returns : tie.Need-returns
 returns c = let r = c .before .before .before .before .before .before .refuse .ensures in compare-none _ _ _ _ _ _ (passed (c .before .before .before .before .before .before .before .before .before .before .before .before .before)) _ _ (c .before .before .before .before .before .before .before .before .before .before .if1 .taken) (r .0) (r .1)
@@ -36,7 +34,7 @@ compare-spec =
     (λ c κs. search needs)
     (λ c. search needs)
     (λ c. search needs)
-    refuse-requires
+    (λ c κs. search needs)
     (λ c. search needs)
     (λ c. search needs)
     (λ c. search needs)

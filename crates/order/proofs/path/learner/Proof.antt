@@ -2,7 +2,8 @@ use borrow.Author.Needs.{needs}
 use Prim.Native.Nat.{_-_, _≤_}
 use native.Mathlib.Omega.{arith}
 use Rattle.paper.specs.Chain as paper
-use Rattle.order.specs.Stands.{of-list}
+use Rattle.course.specs.Said.{of-list}
+use Rattle.order.specs.Stands.{}
 use Rattle.order.proofs.Walking.{there, scan-inside, scan-more, scan-found}
 use Rattle.order.proofs.path.learner.Statement.{statement}
 use Rattle.order.proofs.path.learner.Tie as tie
