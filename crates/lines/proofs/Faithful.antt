@@ -244,7 +244,7 @@ laid-begins : (named : ℕ) (xs old : List ℕ) → laid named xs old ≡ xs ++ 
 unfolding laid
 laid-begins named xs old = append-assoc xs (replicate (named - length xs) 0) (drop named old)
 
-laid-enough : (named : ℕ) (xs old : List ℕ) → named ≤ length (laid named xs old)
+pub laid-enough : (named : ℕ) (xs old : List ℕ) → named ≤ length (laid named xs old)
 unfolding laid
 laid-enough named xs old =
     omega (

@@ -1,0 +1,31 @@
+// `compare FIRST SECOND < SHEET`: the verdict on two events of a sheet.
+use clock::Position;
+use libc::STDERR_FILENO;
+use libc::STDIN_FILENO;
+use libc::STDOUT_FILENO;
+
+fn usage() {
+    io::write_all(STDERR_FILENO, b"usage: compare FIRST SECOND < SHEET\n");
+}
+
+fn main() {
+    let lines::Number::Is(first) = desk::argument(1) else {
+        usage();
+        return;
+    };
+    let lines::Number::Is(second) = desk::argument(2) else {
+        usage();
+        return;
+    };
+    // One byte more than the longest sheet, so that a longer one is refused.
+    let mut sheet = [0u8; 40961];
+    let size = io::read_full(STDIN_FILENO, &mut sheet);
+    let mut page = [0u8; desk::PAGE];
+    let length = desk::compare_answer(
+        &sheet[0..size],
+        Position(first),
+        Position(second),
+        &mut page,
+    );
+    desk::print(STDOUT_FILENO, &page, length);
+}

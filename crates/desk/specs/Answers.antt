@@ -1,0 +1,46 @@
+-- What each program prints of its input: the text of the paper's outcome, over work buffers of zeros that are always large enough.
+use Prim.Native.Nat.{ℕ}
+use mathlib.Core.List.{List}
+use lib.ListN.{replicate}
+use Rattle.paper.specs.Buffers.{Work}
+use Rattle.paper.specs.Chain.{chain}
+use Rattle.paper.specs.Class.{class}
+use Rattle.paper.specs.Event.{events-of}
+use Rattle.paper.specs.Listing.{listing, refusal-line}
+use Rattle.paper.specs.Machine.{start, clocked}
+use Rattle.paper.specs.Questions.{comparing, chaining}
+use Rattle.paper.specs.Reading.{reading}
+use Rattle.paper.specs.Refusals.{Outcome, refused, done}
+use Rattle.lines.specs.Programs.{verdict-line, chain-line, class-listing}
+
+-- Slots for 512 events of 32 processes.
+abbrev pub ample : Work
+ample = record { clocks = replicate 16384 0; masks = replicate 512 0; values = replicate 16384 0 }
+
+-- A refusal's line, or the text of what is answered.
+abbrev pub text-of : {A : Type 0} → (A → List ℕ) → Outcome A → List ℕ
+text-of f (refused r) = refusal-line r
+text-of f (done a) = f a
+
+-- `class`.
+unfoldable pub class-answer : ℕ → List ℕ → List ℕ
+class-answer n list = text-of (λ k. class-listing n list) (class n list ample (replicate 512 0) .0)
+
+-- `listing`.
+unfoldable pub listing-answer : List ℕ → List ℕ
+listing-answer b = text-of (λ r. listing (r .processes) (r .list)) (reading b ample .0)
+
+-- The verdict on two events of a list, and the chain from one to the other.
+unfoldable pub verdict-said : ℕ → List ℕ → ℕ → ℕ → List ℕ
+verdict-said n list a b = text-of verdict-line (comparing n list ample a b .0)
+
+unfoldable pub chain-said : ℕ → List ℕ → ℕ → ℕ → List ℕ
+chain-said n list a b =
+    text-of (λ k. chain-line (chain (clocked n start (events-of list)) a b)) (chaining n list ample a b (replicate 512 0) .0)
+
+-- `compare` and `chain`: what refuses the sheet refuses the question.
+unfoldable pub compare-answer : List ℕ → ℕ → ℕ → List ℕ
+compare-answer sheet a b = text-of (λ r. verdict-said (r .processes) (r .list) a b) (reading sheet ample .0)
+
+unfoldable pub chain-answer : List ℕ → ℕ → ℕ → List ℕ
+chain-answer sheet a b = text-of (λ r. chain-said (r .processes) (r .list) a b) (reading sheet ample .0)

@@ -1,0 +1,148 @@
+// What the programs answer: the whole text for a whole input, over work buffers that are always large enough.
+ghost use Rattle.lines.specs.Text.{Printed};
+ghost use Rattle.desk.specs.Answers.{class-answer, listing-answer, verdict-said, chain-said, compare-answer, chain-answer};
+use clock::Position;
+use course::Classed;
+use order::Chained;
+use order::Compared;
+use sheet::Reading;
+
+// The bytes of a page, on which each answer is written: half a million hold every text.
+pub const PAGE: usize = 500000;
+
+// What `class` prints of a list that is lent directly.
+pub fn class_answer(n: usize, list: &[u8], out: &mut [u8; PAGE]) -> usize
+    ensures { λ r. ⌜ Printed (now (out .entry)) (class-answer n (now (list .entry))) r (now (out .exit)) ⌝ }
+{
+    let mut clocks = [0u16; 16384];
+    let mut masks = [0u32; 512];
+    let mut values = [0u16; 16384];
+    let mut answers = [0u8; 512];
+    let c = course::class(n, list, &mut clocks, &mut masks, &mut values, &mut answers);
+    match c {
+        Classed::Refused(r) => lines::refusal_text(r, out),
+        Classed::Done(k, v) => lines::class_text(n, list, &answers, &clocks, &masks, k, v, out),
+    }
+}
+
+// What `listing` prints of a sheet.
+pub fn listing_answer(sheet: &[u8], out: &mut [u8; PAGE]) -> usize
+    ensures { λ r. ⌜ Printed (now (out .entry)) (listing-answer (now (sheet .entry))) r (now (out .exit)) ⌝ }
+{
+    let mut clocks = [0u16; 16384];
+    let mut masks = [0u32; 512];
+    let mut values = [0u16; 16384];
+    let r = sheet::read(sheet, &mut clocks, &mut masks, &mut values);
+    match r {
+        Reading::Refused(r) => lines::refusal_text(r, out),
+        Reading::Accepted(c) => {
+            let from = c.offset;
+            let list = &sheet[from..from + c.size];
+            lines::listing_text(c.processes, list, &clocks, &masks, c.carried, out)
+        }
+    }
+}
+
+// The verdict on two events of a list.
+fn verdict_said(
+    n: usize,
+    list: &[u8],
+    first: Position,
+    second: Position,
+    out: &mut [u8; PAGE],
+) -> usize
+    ensures { λ r. ⌜ Printed (now (out .entry)) (verdict-said n (now (list .entry)) (first .0) (second .0)) r (now (out .exit)) ⌝ }
+{
+    let mut clocks = [0u16; 16384];
+    let mut masks = [0u32; 512];
+    let mut values = [0u16; 16384];
+    let c = order::compare(n, list, &mut clocks, &mut masks, &mut values, first, second);
+    match c {
+        Compared::Refused(r) => lines::refusal_text(r, out),
+        Compared::Judged(v) => lines::verdict_text(v, out),
+    }
+}
+
+// The chain from one event of a list to another.
+fn chain_said(
+    n: usize,
+    list: &[u8],
+    first: Position,
+    second: Position,
+    out: &mut [u8; PAGE],
+) -> usize
+    ensures { λ r. ⌜ Printed (now (out .entry)) (chain-said n (now (list .entry)) (first .0) (second .0)) r (now (out .exit)) ⌝ }
+{
+    let mut clocks = [0u16; 16384];
+    let mut masks = [0u32; 512];
+    let mut values = [0u16; 16384];
+    let mut chain = [0u16; 512];
+    let c = order::chain(
+        n,
+        list,
+        &mut clocks,
+        &mut masks,
+        &mut values,
+        first,
+        second,
+        &mut chain,
+    );
+    match c {
+        Chained::Refused(r) => lines::refusal_text(r, out),
+        Chained::Length(k) => lines::chain_text(&chain, k, out),
+    }
+}
+
+// What `compare` prints: the verdict on two events of a sheet.
+pub fn compare_answer(
+    sheet: &[u8],
+    first: Position,
+    second: Position,
+    out: &mut [u8; PAGE],
+) -> usize
+    ensures { λ r. ⌜ Printed (now (out .entry)) (compare-answer (now (sheet .entry)) (first .0) (second .0)) r (now (out .exit)) ⌝ }
+{
+    let mut clocks = [0u16; 16384];
+    let mut masks = [0u32; 512];
+    let mut values = [0u16; 16384];
+    let r = sheet::read(sheet, &mut clocks, &mut masks, &mut values);
+    match r {
+        Reading::Refused(r) => lines::refusal_text(r, out),
+        Reading::Accepted(c) => {
+            let from = c.offset;
+            verdict_said(c.processes, &sheet[from..from + c.size], first, second, out)
+        }
+    }
+}
+
+// What `chain` prints: the chain from one event of a sheet to another.
+pub fn chain_answer(sheet: &[u8], first: Position, second: Position, out: &mut [u8; PAGE]) -> usize
+    ensures { λ r. ⌜ Printed (now (out .entry)) (chain-answer (now (sheet .entry)) (first .0) (second .0)) r (now (out .exit)) ⌝ }
+{
+    let mut clocks = [0u16; 16384];
+    let mut masks = [0u32; 512];
+    let mut values = [0u16; 16384];
+    let r = sheet::read(sheet, &mut clocks, &mut masks, &mut values);
+    match r {
+        Reading::Refused(r) => lines::refusal_text(r, out),
+        Reading::Accepted(c) => {
+            let from = c.offset;
+            chain_said(c.processes, &sheet[from..from + c.size], first, second, out)
+        }
+    }
+}
+
+// The number that a program's argument says. A missing argument and one of more than 5 bytes are 0 bytes long here.
+pub fn argument(i: usize) -> lines::Number {
+    let mut text = [0u8; 5];
+    let n = os::arg(i, &mut text);
+    lines::parse(&text[..n])
+}
+
+// The first bytes of a page. No text is longer than a page, as its promise says.
+pub fn print(to: i32, page: &[u8; PAGE], length: usize) {
+    let bytes = &page[..];
+    if length <= bytes.len() {
+        io::write_all(to, &bytes[0..length]);
+    }
+}

@@ -1,0 +1,6 @@
+mod Small
+mod Refusals
+mod Calls
+mod Given
+mod Listed
+mod Unpacked

@@ -1,0 +1,62 @@
+-- Refusal numbers are below 256, and the positions of refused events at most 512.
+use Prim.Native.Nat.{ℕ, suc, _+_, min, _≤_, _<_}
+use native.Mathlib.Omega.{arith}
+use mathlib.Core.Path.{_≡_, refl}
+use mathlib.Core.Bool.{Bool, true, false}
+use mathlib.Core.List.{List, [], _∷_, zipWith}
+use lib.Dec.{eqb}
+use lib.ListN.{length}
+use borrow.Author.Tests.{eqb-true}
+use Rattle.paper.specs.Event.{Event}
+use Rattle.paper.specs.Machine.{State, shape, answer, offered, answers}
+use Rattle.paper.specs.Reading.{first-refused, begins, stamps-refused}
+use Rattle.paper.specs.Refusals.{first, Refusal, of-call, _then_}
+use Rattle.paper.proofs.Laws.Tables.{cond-cases}
+use Rattle.oboefinch.specs.Packed.{refusal-fields}
+use Rattle.oboefinch.proofs.Small.{Small}
+
+pub record Mild (r : Refusal) : Type 0 where
+  pub number : r .number < 256
+  pub position : r .position ≤ 512
+
+pub mild-small : (r : Refusal) → Mild r → Small (refusal-fields r)
+mild-small r m = record { number = m .number; x = omega arith; y = omega (arith, m .position); z = omega arith }
+
+-- A number c that is min 255 c.
+pub capped : (t : Bool) (r k : ℕ) → min 255 (first t r k) ≡ first t (min 255 r) (min 255 k)
+capped true r k = refl
+capped false r k = refl
+
+pub call-mild : (c : ℕ) → min 255 c ≡ c → Mild (of-call c)
+call-mild c h = record { number = omega arith; position = omega arith }
+
+pub then-mild : (r k : Refusal) → Mild r → (r .number ≡ 0 → Mild k) → Mild (r then k)
+then-mild r k m h = cond-cases Mild (eqb (r .number) 0) k r (λ q. h (eqb-true (r .number) 0 q)) (λ q. m)
+
+answer-capped : (n : ℕ) (s : State) (e : Event) → min 255 (answer n s e) ≡ answer n s e
+unfolding answer shape
+answer-capped n s e = simp capped
+
+-- Events in order, from position i on.
+pub events-mild : (n : ℕ) (es : List Event) (s : State) (i : ℕ) → i + length es ≤ 512 → Mild (first-refused i (answers n s es))
+unfolding first-refused answers
+events-mild n [] s i l = call-mild 0 refl
+events-mild n (e ∷ es) s i l =
+    then-mild (record { number = answer n s e; position = i }) _
+    (record { number = omega (arith, answer-capped n s e); position = omega arith })
+    (λ q. events-mild n es (offered n s e) (suc i) (omega arith))
+
+-- Stamps in order, likewise.
+pub stamps-mild : (ts : List (List ℕ)) (i : ℕ) (b : List ℕ) → i + length ts ≤ 512 → Mild (stamps-refused i ts b)
+unfolding stamps-refused
+stamps-mild [] i [] l = call-mild 0 refl
+stamps-mild [] i (x ∷ b) l = call-mild 19 refl
+stamps-mild (t ∷ ts) i b l =
+    cond-cases Mild (begins t b) _ _ (λ q. stamps-mild ts (suc i) _ (omega arith))
+    (λ q. record { number = omega arith; position = omega arith })
+
+pub zip-few : {A B C : Type 0} (f : A → B → C) (l : List A) (m : List B) → length (zipWith f l m) ≤ length l
+unfolding zipWith
+zip-few f [] m = omega arith
+zip-few f (x ∷ l) [] = omega arith
+zip-few f (x ∷ l) (y ∷ m) = omega (arith, zip-few f l m)

@@ -1,0 +1,133 @@
+// The C calls: each answers with one number, `number + 256 * x + 65536 * y + 4294967296 * z`.
+mod pack;
+
+ghost use mathlib.Core.Path.{_≡_};
+ghost use Rattle.paper.specs.Class as paper;
+ghost use Rattle.paper.specs.Questions.{ordering, comparing, chaining, writing};
+ghost use Rattle.paper.specs.Reading.{reading};
+ghost use Rattle.course.specs.Said.{work};
+ghost use Rattle.oboefinch.specs.Packed.{read-fields, class-fields, write-fields, verdict-fields, chain-fields};
+ghost use Rattle.oboefinch.specs.Packed.{answered, with-work, with-output};
+use clock::Ordered;
+use clock::Position;
+use course::Classed;
+use order::Chained;
+use order::Compared;
+use sheet::Reading;
+use sheet::Wrote;
+
+// Reading a sheet.
+#[no_mangle]
+pub extern "C" fn oboefinch_read(
+    sheet: &[u8],
+    clocks: &mut [u16],
+    masks: &mut [u32],
+    values: &mut [u16],
+) -> u64
+    ensures { λ r. ⌜ (r, work (now (clocks .exit)) (now (masks .exit)) (now (values .exit)))
+        ≡ with-work read-fields
+        (reading (now (sheet .entry)) (work (now (clocks .entry)) (now (masks .entry)) (now (values .entry)))) ⌝ }
+{
+    match sheet::read(sheet, clocks, masks, values) {
+        Reading::Refused(r) => pack::refusal(r),
+        Reading::Accepted(c) => pack::fields(0, c.processes, c.size / 8, c.carried),
+    }
+}
+
+// Class mode: each offer of the list is tried.
+#[no_mangle]
+pub extern "C" fn oboefinch_class(
+    n: usize,
+    list: &[u8],
+    clocks: &mut [u16],
+    masks: &mut [u32],
+    values: &mut [u16],
+    answers: &mut [u8],
+) -> u64
+    ensures { λ r. ⌜ (r, work (now (clocks .exit)) (now (masks .exit)) (now (values .exit)), now (answers .exit))
+        ≡ with-output class-fields
+        (paper.class n (now (list .entry)) (work (now (clocks .entry)) (now (masks .entry)) (now (values .entry))) (now (answers .entry))) ⌝ }
+{
+    match course::class(n, list, clocks, masks, values, answers) {
+        Classed::Refused(r) => pack::refusal(r),
+        Classed::Done(accepted, carried) => pack::fields(0, 0, accepted, carried),
+    }
+}
+
+// Writing the sheet of a list.
+#[no_mangle]
+pub extern "C" fn oboefinch_write(
+    n: usize,
+    list: &[u8],
+    clocks: &mut [u16],
+    masks: &mut [u32],
+    values: &mut [u16],
+    sheet: &mut [u8],
+) -> u64
+    ensures { λ r. ⌜ (r, work (now (clocks .exit)) (now (masks .exit)) (now (values .exit)), now (sheet .exit))
+        ≡ with-output write-fields
+        (writing n (now (list .entry)) (work (now (clocks .entry)) (now (masks .entry)) (now (values .entry))) (now (sheet .entry))) ⌝ }
+{
+    match sheet::write(n, list, clocks, masks, values, sheet) {
+        Wrote::Refused(r) => pack::refusal(r),
+        Wrote::Done(events, bytes) => pack::fields(0, 0, events, bytes),
+    }
+}
+
+// The verdict on two events of a list.
+#[no_mangle]
+pub extern "C" fn oboefinch_compare(
+    n: usize,
+    list: &[u8],
+    clocks: &mut [u16],
+    masks: &mut [u32],
+    values: &mut [u16],
+    first: usize,
+    second: usize,
+) -> u64
+    ensures { λ r. ⌜ (r, work (now (clocks .exit)) (now (masks .exit)) (now (values .exit)))
+        ≡ with-work verdict-fields
+        (comparing n (now (list .entry)) (work (now (clocks .entry)) (now (masks .entry)) (now (values .entry))) first second) ⌝ }
+{
+    let a = Position(first);
+    let b = Position(second);
+    match order::compare(n, list, clocks, masks, values, a, b) {
+        Compared::Refused(r) => pack::refusal(r),
+        Compared::Judged(v) => pack::verdict(v),
+    }
+}
+
+// The sends that lead from one event of a list to another.
+#[no_mangle]
+pub extern "C" fn oboefinch_chain(
+    n: usize,
+    list: &[u8],
+    clocks: &mut [u16],
+    masks: &mut [u32],
+    values: &mut [u16],
+    first: usize,
+    second: usize,
+    chain: &mut [u16],
+) -> u64
+    ensures { λ r. ⌜ (r, work (now (clocks .exit)) (now (masks .exit)) (now (values .exit)), now (chain .exit))
+        ≡ with-output chain-fields
+        (chaining n (now (list .entry)) (work (now (clocks .entry)) (now (masks .entry)) (now (values .entry))) first second (now (chain .entry))) ⌝ }
+{
+    let a = Position(first);
+    let b = Position(second);
+    match order::chain(n, list, clocks, masks, values, a, b, chain) {
+        Chained::Refused(r) => pack::refusal(r),
+        Chained::Length(length) => pack::fields(0, 0, 0, length),
+    }
+}
+
+// The verdict on two lent clocks.
+#[no_mangle]
+pub extern "C" fn oboefinch_order(first: &[u16], second: &[u16]) -> u64
+    ensures { λ r. ⌜ r ≡ answered verdict-fields (ordering (now (first .entry)) (now (second .entry))) ⌝ }
+{
+    match clock::order(first, second) {
+        Ordered::Refused(r) => pack::refusal(r),
+        Ordered::Judged(v) => pack::verdict(v),
+    }
+}

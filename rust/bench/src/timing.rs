@@ -1,0 +1,37 @@
+//! Plain timing loops: the best of several repetitions, the sides taking turns in each.
+
+use std::time::{Duration, Instant};
+
+pub const REPETITIONS: usize = 15;
+const LEAST_TIME: Duration = Duration::from_micros(500);
+
+/// Nanoseconds of one run of each side.
+pub fn best_nanoseconds<const SIDES: usize>(sides: [&mut dyn FnMut(); SIDES]) -> [f64; SIDES] {
+    let mut timed = sides.map(|run| {
+        let runs = enough_runs(run);
+        (run, runs, Duration::MAX)
+    });
+    for _ in 0..REPETITIONS {
+        for (run, runs, best) in &mut timed {
+            *best = time_of(*runs, *run).min(*best);
+        }
+    }
+    timed.map(|(_, runs, best)| best.as_nanos() as f64 / f64::from(runs))
+}
+
+/// How many runs take long enough for the clock.
+fn enough_runs(run: &mut dyn FnMut()) -> u32 {
+    let mut runs = 1;
+    while time_of(runs, run) < LEAST_TIME {
+        runs *= 2;
+    }
+    runs
+}
+
+fn time_of(runs: u32, run: &mut dyn FnMut()) -> Duration {
+    let start = Instant::now();
+    for _ in 0..runs {
+        run();
+    }
+    start.elapsed()
+}

@@ -1,0 +1,178 @@
+//! The paper's sheet A, list B and settled examples, through the library's safe wrapper and both sides.
+
+use cases::lengths::WorkLengths;
+use cases::{Call, Case, ALL_CALLS};
+use compare::run;
+use oboefinch::{chain, class, compare, order, read, write, Refusal, Verdict};
+use second::event::{list_of, Event};
+use second::examples::{events_of_b, list_a, PROCESSES_OF_A, PROCESSES_OF_B, SHEET_A};
+use second::sheet::{compose, header_bytes};
+use second::text;
+
+fn refusal(number: u8, position: u16) -> Refusal {
+    Refusal { number, position }
+}
+
+/// The listing's last fields, as the second program prints them.
+fn library_listing(sheet: &[u8]) -> Vec<String> {
+    let reading = read(sheet).unwrap();
+    let line = |position| {
+        let clock = reading.clock(position).iter().map(u16::to_string);
+        let components: Vec<String> = clock.collect();
+        format!("{} {}", reading.mask(position), components.join(" "))
+    };
+    (0..reading.events()).map(line).collect()
+}
+
+fn agree(case: &Case) {
+    if let Err(difference) = run(case) {
+        panic!("{case:?}: {}", difference.0);
+    }
+}
+
+#[test]
+fn examples_1_and_2_clocks_and_masks_of_a() {
+    let expected = [
+        "1 1 0 0", "4 0 0 1", "0 1 1 0", "3 1 2 0", "0 1 3 1", "6 1 4 1", "0 2 2 0", "0 3 4 1",
+    ];
+    assert_eq!(library_listing(SHEET_A), expected);
+    let reading = read(SHEET_A).unwrap();
+    assert_eq!((reading.processes(), reading.entries()), (3, 6));
+    assert_eq!(reading.values(5), [4, 1]);
+    assert_eq!(reading.values(4), [0u16; 0]);
+}
+
+#[test]
+fn examples_3_to_6_questions_about_a() {
+    let verdict = |first, second| compare(PROCESSES_OF_A, list_a(), first, second);
+    assert_eq!(verdict(1, 3), Ok(Verdict::Neither));
+    assert_eq!(verdict(1, 7), Ok(Verdict::Before));
+    assert_eq!(verdict(7, 0), Ok(Verdict::After));
+    assert_eq!(chain(PROCESSES_OF_A, list_a(), 1, 7), Ok(vec![1, 5]));
+    assert_eq!(order(&[0, 0, 1], &[1, 2, 0]), Ok(Verdict::Neither));
+}
+
+#[test]
+fn example_7_the_empty_list() {
+    assert_eq!(class(3, &[]).unwrap().accepted.events(), 0);
+    assert_eq!(read(&compose(3, &[], &[])).unwrap().events(), 0);
+}
+
+#[test]
+fn examples_8_to_10_refused_events() {
+    let sends = [Event::send(0, 1, 1), Event::send(0, 1, 2)];
+    let second_first = [sends[0], sends[1], Event::receive(1, 0, 2)];
+    let twice = [sends[0], Event::receive(1, 0, 1), Event::receive(1, 0, 1)];
+    let to_itself = [Event::send(0, 0, 1)];
+    let of = |n, events: &[Event]| write(n, &list_of(events)).unwrap_err();
+    assert_eq!(of(2, &second_first), refusal(16, 2));
+    assert_eq!(of(2, &twice), refusal(15, 2));
+    assert_eq!(of(1, &to_itself), refusal(12, 0));
+    assert_eq!(class(2, &list_of(&twice)).unwrap().answers, [0, 0, 15]);
+}
+
+#[test]
+fn example_11_a_sum_that_wraps() {
+    let mut sheet = *SHEET_A;
+    sheet[8..12].copy_from_slice(&4_278_190_104u32.to_le_bytes());
+    sheet[12..16].copy_from_slice(&16_777_280u32.to_le_bytes());
+    assert_eq!(read(&sheet), Err(refusal(6, 0)));
+}
+
+#[test]
+fn example_12_list_b() {
+    let written = write(PROCESSES_OF_B, &list_of(&events_of_b())).unwrap();
+    let last_two = [6, 7].map(|position| written.accepted.clock(position).to_vec());
+    assert_eq!(last_two, [[5, 2], [5, 3]]);
+    assert_eq!(
+        [6, 7].map(|position| written.accepted.mask(position)),
+        [3, 2]
+    );
+    assert_eq!(read(&written.sheet).unwrap(), written.accepted);
+}
+
+#[test]
+fn sheet_a_is_written_byte_for_byte() {
+    let written = write(PROCESSES_OF_A, list_a()).unwrap();
+    assert_eq!(written.sheet, SHEET_A);
+}
+
+#[test]
+fn a_list_may_end_at_the_last_byte_and_not_later() {
+    let mut sheet = header_bytes(3, &(52..116), &(24..52));
+    sheet.extend(&SHEET_A[88..]);
+    sheet.extend(list_a());
+    assert!(read(&sheet).is_ok());
+    sheet[8] += 1;
+    assert_eq!(read(&sheet), Err(refusal(6, 0)));
+}
+
+#[test]
+fn the_most_events_and_processes_and_one_more() {
+    let list = |events| list_of(&vec![Event::internal(0); events]);
+    assert_eq!(read(&compose(1, &list(512), &[])).unwrap().events(), 512);
+    assert_eq!(read(&compose(1, &list(513), &[])), Err(refusal(6, 0)));
+    assert_eq!(class(1, &list(512)).unwrap().accepted.clock(511), [512]);
+    assert_eq!(class(1, &list(513)), Err(refusal(8, 0)));
+    assert!(class(32, &list(1)).is_ok());
+    assert_eq!(class(33, &list(1)), Err(refusal(4, 0)));
+    assert_eq!(read(&compose(33, &list(1), &[])), Err(refusal(4, 0)));
+}
+
+#[test]
+fn both_sides_agree_on_every_pair_of_sheet_a() {
+    for first in 0..9 {
+        for second in 0..9 {
+            for call in ALL_CALLS {
+                agree(&case_of_a(call, (first, second)));
+            }
+        }
+    }
+}
+
+fn case_of_a(call: Call, positions: (usize, usize)) -> Case {
+    let input = match call {
+        Call::Read => SHEET_A.to_vec(),
+        _ => list_a().to_vec(),
+    };
+    Case {
+        call,
+        processes: PROCESSES_OF_A,
+        input,
+        work: WorkLengths::needed(PROCESSES_OF_A, 8),
+        output: 512,
+        positions,
+        clocks: (vec![1, 0, 0], vec![0, 0, 1]),
+    }
+}
+
+#[test]
+fn both_sides_agree_on_sheet_a_with_each_bit_changed() {
+    for place in 0..SHEET_A.len() {
+        for bit in 0..8 {
+            let mut case = case_of_a(Call::Read, (0, 0));
+            case.input[place] ^= 1 << bit;
+            case.work = WorkLengths::needed(32, 16);
+            agree(&case);
+        }
+    }
+}
+
+#[test]
+fn both_sides_agree_on_sheet_a_cut_and_lengthened() {
+    for length in 0..160 {
+        let mut case = case_of_a(Call::Read, (0, 0));
+        case.input.resize(length, 0);
+        agree(&case);
+    }
+}
+
+#[test]
+fn a_refusal_reads_as_the_programs_print_it() {
+    let spoilt = &SHEET_A[..23];
+    let printed = text::listing(spoilt).output;
+    let refusal = read(spoilt).unwrap_err();
+    let line = format!("refused {} at {}\n", refusal.number, refusal.position);
+    assert_eq!(printed, line.as_bytes());
+    assert!(refusal.to_string().contains("shorter than 24"));
+}

@@ -1,0 +1,187 @@
+//! The six calls on lent buffers.
+
+use crate::clock::{is_process_count, verdict, Verdict};
+use crate::event::{MOST_EVENTS, MOST_LIST_BYTES, RECORD_SIZE};
+use crate::judge::{carried_values, each_offer, only_accepted, whole_list};
+use crate::machine::Accepted;
+use crate::sheet::{compose, judge_parts, stamp_bytes, Header};
+use crate::{questions, Check, Refusal};
+
+pub const CHAIN_SLOTS: usize = MOST_EVENTS;
+
+/// The work buffers that every call but `order` is lent.
+pub struct Work<'a> {
+    pub clocks: &'a mut [u16],
+    pub masks: &'a mut [u32],
+    pub values: &'a mut [u16],
+}
+
+impl Work<'_> {
+    /// Check 9: "n times m clock slots, m masks, n times m values".
+    fn check_room(&self, n: usize, m: usize) -> Result<(), Refusal> {
+        let has_room =
+            self.clocks.len() >= n * m && self.masks.len() >= m && self.values.len() >= n * m;
+        if has_room {
+            Ok(())
+        } else {
+            Err(Check::WorkLength.of_no_event())
+        }
+    }
+
+    /// The slots named in check 9, and no others.
+    fn clear(&mut self, n: usize, m: usize) {
+        self.clocks[..n * m].fill(0);
+        self.masks[..m].fill(0);
+        self.values[..n * m].fill(0);
+    }
+
+    /// "the clocks of accepted events stand one after another, n slots each, and their masks likewise".
+    fn fill(&mut self, n: usize, accepted: &[Accepted]) {
+        for (k, one) in accepted.iter().enumerate() {
+            self.clocks[k * n..(k + 1) * n].copy_from_slice(&one.clock[..n]);
+            self.masks[k] = one.stamp.mask;
+        }
+        let carried = carried_values(accepted);
+        self.values[..carried.len()].copy_from_slice(&carried);
+    }
+}
+
+#[derive(Clone, Copy, Debug, PartialEq, Eq)]
+pub struct Reading {
+    pub processes: usize,
+    pub events: usize,
+    pub entries: usize,
+}
+
+#[derive(Clone, Copy, Debug, PartialEq, Eq)]
+pub struct Classed {
+    pub accepted: usize,
+    pub entries: usize,
+}
+
+#[derive(Clone, Copy, Debug, PartialEq, Eq)]
+pub struct Written {
+    pub events: usize,
+    pub bytes: usize,
+}
+
+/// Checks 1 to 7, 9, events in order, then stamps.
+pub fn read(sheet: &[u8], mut work: Work) -> Result<Reading, Refusal> {
+    let header = Header::of(sheet).map_err(Check::of_no_event)?;
+    let n = header.processes;
+    let m = header.events.len() / RECORD_SIZE;
+    work.check_room(n, m)?;
+    work.clear(n, m);
+    let accepted = judge_parts(sheet, &header)?;
+    work.fill(n, &accepted);
+    Ok(Reading {
+        processes: n,
+        events: m,
+        entries: carried_values(&accepted).len(),
+    })
+}
+
+/// Checks 4, 8, 9; then an answer for each offer.
+pub fn class(
+    n: usize,
+    list: &[u8],
+    mut work: Work,
+    answers: &mut [u8],
+) -> Result<Classed, Refusal> {
+    let m = count_lent_events(n, list)?;
+    work.check_room(n, m)?;
+    if answers.len() < m {
+        return Err(Check::WorkLength.of_no_event());
+    }
+    let offers = each_offer(n, list);
+    for (answer, offer) in answers.iter_mut().zip(&offers) {
+        *answer = match offer {
+            Ok(_) => 0,
+            Err(check) => check.number(),
+        };
+    }
+    let accepted = only_accepted(&offers);
+    work.clear(n, m);
+    work.fill(n, &accepted);
+    Ok(Classed {
+        accepted: accepted.len(),
+        entries: carried_values(&accepted).len(),
+    })
+}
+
+/// Checks 4, 8, 9, events in order, then 21.
+pub fn write(n: usize, list: &[u8], mut work: Work, output: &mut [u8]) -> Result<Written, Refusal> {
+    let accepted = judge_lent_list(n, list, &mut work)?;
+    let sheet = compose(n, list, &stamp_bytes(&accepted));
+    if output.len() < sheet.len() {
+        return Err(Check::OutputLength.of_no_event());
+    }
+    output[..sheet.len()].copy_from_slice(&sheet);
+    work.fill(n, &accepted);
+    Ok(Written {
+        events: accepted.len(),
+        bytes: sheet.len(),
+    })
+}
+
+/// Checks 4, 8, 9, events in order, then 20.
+pub fn compare(
+    n: usize,
+    list: &[u8],
+    mut work: Work,
+    first: usize,
+    second: usize,
+) -> Result<Verdict, Refusal> {
+    let accepted = judge_lent_list(n, list, &mut work)?;
+    let verdict = questions::compare(&accepted, first, second)?;
+    work.fill(n, &accepted);
+    Ok(verdict)
+}
+
+/// Checks 4, 8, 9, events in order, then 20, 22, 21; gives the chain's length.
+pub fn chain(
+    n: usize,
+    list: &[u8],
+    mut work: Work,
+    first: usize,
+    second: usize,
+    output: &mut [u16],
+) -> Result<usize, Refusal> {
+    let accepted = judge_lent_list(n, list, &mut work)?;
+    let sends = questions::chain(&accepted, first, second)?;
+    if output.len() < CHAIN_SLOTS {
+        return Err(Check::OutputLength.of_no_event());
+    }
+    for (slot, send) in output.iter_mut().zip(&sends) {
+        *slot = *send as u16;
+    }
+    work.fill(n, &accepted);
+    Ok(sends.len())
+}
+
+/// "Comparing two lent clocks: 4 only."
+pub fn order(first: &[u16], second: &[u16]) -> Result<Verdict, Refusal> {
+    if !is_process_count(first.len()) || first.len() != second.len() {
+        return Err(Check::ProcessCount.of_no_event());
+    }
+    Ok(verdict(first, second))
+}
+
+/// Checks 4 and 8; gives the number of events in the list.
+pub(crate) fn count_lent_events(n: usize, list: &[u8]) -> Result<usize, Refusal> {
+    if !is_process_count(n) {
+        return Err(Check::ProcessCount.of_no_event());
+    }
+    if !list.len().is_multiple_of(RECORD_SIZE) || list.len() > MOST_LIST_BYTES {
+        return Err(Check::ListLength.of_no_event());
+    }
+    Ok(list.len() / RECORD_SIZE)
+}
+
+/// Checks 4, 8, 9 and events in order; past check 9 the named slots are 0.
+fn judge_lent_list(n: usize, list: &[u8], work: &mut Work) -> Result<Vec<Accepted>, Refusal> {
+    let m = count_lent_events(n, list)?;
+    work.check_room(n, m)?;
+    work.clear(n, m);
+    whole_list(n, list)
+}

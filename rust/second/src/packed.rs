@@ -1,0 +1,61 @@
+//! The six calls with the answer packed into one number, as the C calls give it.
+
+use crate::calls::{self, Work};
+use crate::Refusal;
+
+pub fn read(sheet: &[u8], work: Work) -> u64 {
+    match calls::read(sheet, work) {
+        Ok(reading) => pack(0, reading.processes, reading.events, reading.entries),
+        Err(refusal) => refused(refusal),
+    }
+}
+
+pub fn class(n: usize, list: &[u8], work: Work, answers: &mut [u8]) -> u64 {
+    match calls::class(n, list, work, answers) {
+        Ok(classed) => pack(0, 0, classed.accepted, classed.entries),
+        Err(refusal) => refused(refusal),
+    }
+}
+
+pub fn write(n: usize, list: &[u8], work: Work, output: &mut [u8]) -> u64 {
+    match calls::write(n, list, work, output) {
+        Ok(written) => pack(0, 0, written.events, written.bytes),
+        Err(refusal) => refused(refusal),
+    }
+}
+
+pub fn compare(n: usize, list: &[u8], work: Work, first: usize, second: usize) -> u64 {
+    match calls::compare(n, list, work, first, second) {
+        Ok(verdict) => pack(0, verdict as usize, 0, 0),
+        Err(refusal) => refused(refusal),
+    }
+}
+
+pub fn chain(
+    n: usize,
+    list: &[u8],
+    work: Work,
+    first: usize,
+    second: usize,
+    output: &mut [u16],
+) -> u64 {
+    match calls::chain(n, list, work, first, second, output) {
+        Ok(length) => pack(0, 0, 0, length),
+        Err(refusal) => refused(refusal),
+    }
+}
+
+pub fn order(first: &[u16], second: &[u16]) -> u64 {
+    match calls::order(first, second) {
+        Ok(verdict) => pack(0, verdict as usize, 0, 0),
+        Err(refusal) => refused(refusal),
+    }
+}
+
+fn refused(refusal: Refusal) -> u64 {
+    pack(refusal.check.number(), 0, refusal.position, 0)
+}
+
+pub fn pack(number: u8, x: usize, y: usize, z: usize) -> u64 {
+    u64::from(number) + 256 * x as u64 + 65_536 * y as u64 + 4_294_967_296 * z as u64
+}

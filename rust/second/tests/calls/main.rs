@@ -1,0 +1,5 @@
+//! The six calls held against the paper.
+
+mod desk;
+mod paper;
+mod refusals;

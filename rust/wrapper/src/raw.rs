@@ -1,0 +1,209 @@
+//! The C calls over lent slices; each gives the packed answer, to be taken apart by [`crate::Answer`].
+
+extern "C" {
+    fn oboefinch_read(
+        sheet: *const u8,
+        sheet_length: usize,
+        clocks: *mut u16,
+        clocks_length: usize,
+        masks: *mut u32,
+        masks_length: usize,
+        values: *mut u16,
+        values_length: usize,
+    ) -> u64;
+
+    fn oboefinch_class(
+        n: usize,
+        list: *const u8,
+        list_length: usize,
+        clocks: *mut u16,
+        clocks_length: usize,
+        masks: *mut u32,
+        masks_length: usize,
+        values: *mut u16,
+        values_length: usize,
+        answers: *mut u8,
+        answers_length: usize,
+    ) -> u64;
+
+    fn oboefinch_write(
+        n: usize,
+        list: *const u8,
+        list_length: usize,
+        clocks: *mut u16,
+        clocks_length: usize,
+        masks: *mut u32,
+        masks_length: usize,
+        values: *mut u16,
+        values_length: usize,
+        sheet: *mut u8,
+        sheet_length: usize,
+    ) -> u64;
+
+    fn oboefinch_compare(
+        n: usize,
+        list: *const u8,
+        list_length: usize,
+        clocks: *mut u16,
+        clocks_length: usize,
+        masks: *mut u32,
+        masks_length: usize,
+        values: *mut u16,
+        values_length: usize,
+        first: usize,
+        second: usize,
+    ) -> u64;
+
+    fn oboefinch_chain(
+        n: usize,
+        list: *const u8,
+        list_length: usize,
+        clocks: *mut u16,
+        clocks_length: usize,
+        masks: *mut u32,
+        masks_length: usize,
+        values: *mut u16,
+        values_length: usize,
+        first: usize,
+        second: usize,
+        chain: *mut u16,
+        chain_length: usize,
+    ) -> u64;
+
+    fn oboefinch_order(
+        first: *const u16,
+        first_length: usize,
+        second: *const u16,
+        second_length: usize,
+    ) -> u64;
+}
+
+pub fn read(sheet: &[u8], clocks: &mut [u16], masks: &mut [u32], values: &mut [u16]) -> u64 {
+    // SAFETY: each pointer comes with its own slice's length; the call keeps none of them.
+    unsafe {
+        oboefinch_read(
+            sheet.as_ptr(),
+            sheet.len(),
+            clocks.as_mut_ptr(),
+            clocks.len(),
+            masks.as_mut_ptr(),
+            masks.len(),
+            values.as_mut_ptr(),
+            values.len(),
+        )
+    }
+}
+
+pub fn class(
+    n: usize,
+    list: &[u8],
+    clocks: &mut [u16],
+    masks: &mut [u32],
+    values: &mut [u16],
+    answers: &mut [u8],
+) -> u64 {
+    // SAFETY: each pointer comes with its own slice's length; the call keeps none of them.
+    unsafe {
+        oboefinch_class(
+            n,
+            list.as_ptr(),
+            list.len(),
+            clocks.as_mut_ptr(),
+            clocks.len(),
+            masks.as_mut_ptr(),
+            masks.len(),
+            values.as_mut_ptr(),
+            values.len(),
+            answers.as_mut_ptr(),
+            answers.len(),
+        )
+    }
+}
+
+pub fn write(
+    n: usize,
+    list: &[u8],
+    clocks: &mut [u16],
+    masks: &mut [u32],
+    values: &mut [u16],
+    sheet: &mut [u8],
+) -> u64 {
+    // SAFETY: each pointer comes with its own slice's length; the call keeps none of them.
+    unsafe {
+        oboefinch_write(
+            n,
+            list.as_ptr(),
+            list.len(),
+            clocks.as_mut_ptr(),
+            clocks.len(),
+            masks.as_mut_ptr(),
+            masks.len(),
+            values.as_mut_ptr(),
+            values.len(),
+            sheet.as_mut_ptr(),
+            sheet.len(),
+        )
+    }
+}
+
+/// `positions` are the first and the second event asked about.
+pub fn compare(
+    n: usize,
+    list: &[u8],
+    clocks: &mut [u16],
+    masks: &mut [u32],
+    values: &mut [u16],
+    positions: (usize, usize),
+) -> u64 {
+    // SAFETY: each pointer comes with its own slice's length; the call keeps none of them.
+    unsafe {
+        oboefinch_compare(
+            n,
+            list.as_ptr(),
+            list.len(),
+            clocks.as_mut_ptr(),
+            clocks.len(),
+            masks.as_mut_ptr(),
+            masks.len(),
+            values.as_mut_ptr(),
+            values.len(),
+            positions.0,
+            positions.1,
+        )
+    }
+}
+
+/// `positions` are the first and the second event asked about.
+pub fn chain(
+    n: usize,
+    list: &[u8],
+    clocks: &mut [u16],
+    masks: &mut [u32],
+    values: &mut [u16],
+    positions: (usize, usize),
+    chain: &mut [u16],
+) -> u64 {
+    // SAFETY: each pointer comes with its own slice's length; the call keeps none of them.
+    unsafe {
+        oboefinch_chain(
+            n,
+            list.as_ptr(),
+            list.len(),
+            clocks.as_mut_ptr(),
+            clocks.len(),
+            masks.as_mut_ptr(),
+            masks.len(),
+            values.as_mut_ptr(),
+            values.len(),
+            positions.0,
+            positions.1,
+            chain.as_mut_ptr(),
+            chain.len(),
+        )
+    }
+}
+
+pub fn order(first: &[u16], second: &[u16]) -> u64 {
+    // SAFETY: each pointer comes with its own slice's length; the call keeps none of them.
+    unsafe { oboefinch_order(first.as_ptr(), first.len(), second.as_ptr(), second.len()) }
+}

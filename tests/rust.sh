@@ -1,0 +1,7 @@
+#!/usr/bin/env bash
+# The library against the second program: the static library is built, then the Rust workspace runs its tests against it.
+set -eu
+cd "$(dirname "$0")/.."
+rt staticlib oboefinch >/dev/null
+cd rust
+cargo test --release --offline --quiet
