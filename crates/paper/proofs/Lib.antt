@@ -17,3 +17,4 @@ pub mod Elsewhere
 pub mod StampSays
 pub mod Lent
 pub mod Settled
+pub mod OneOutcome
