@@ -15,7 +15,7 @@ use super::event::wide;
 use clock::Message;
 use clock::Process;
 
-pub fn channel_number(from: Process, to: Process) -> usize
+pub(crate) fn channel_number(from: Process, to: Process) -> usize
     requires { ⌜ (from .0 < 32) × (to .0 < 32) ⌝ }
     ensures { λ r. ⌜ (r ≡ channel-of (from .0) (to .0)) × (r < 1024) ⌝ }
 {
@@ -23,7 +23,7 @@ pub fn channel_number(from: Process, to: Process) -> usize
 }
 
 // The accepted event, of the first k, that sent the number x; k where there is none.
-pub fn find(
+pub(crate) fn find(
     number: &[u16; 512],
     head: &[u16; 1024],
     next: &[u16; 512],
@@ -47,7 +47,7 @@ pub fn find(
 }
 
 // The accepted send k of the number x becomes the last of its chain.
-pub fn link(x: Message, k: usize, head: &mut [u16; 1024], next: &mut [u16; 512])
+pub(crate) fn link(x: Message, k: usize, head: &mut [u16; 1024], next: &mut [u16; 512])
     requires { ⌜ k < 512 ⌝ }
     ensures { λ _. ⌜ (now (head .exit) ≡ set (now (head .entry)) (x .0 % 1024) (k + 1)) × (now (next .exit) ≡ set (now (next .entry)) k (getD (now (head .entry)) (x .0 % 1024) 0)) ⌝ }
 {
@@ -108,7 +108,7 @@ fn lately(
 }
 
 // 10 to 16, or 0.
-pub fn judge(
+pub(crate) fn judge(
     n: usize,
     e: Event,
     at: usize,

@@ -18,13 +18,13 @@ pub struct Event {
     pub spare7: u8,
 }
 
-pub fn wide(x: u8) -> usize
+pub(crate) fn wide(x: u8) -> usize
     ensures { λ r. ⌜ (r ≡ x) × (r < 256) ⌝ }
 {
     x as usize
 }
 
-pub fn index(x: u16) -> usize
+pub(crate) fn index(x: u16) -> usize
     ensures { λ r. ⌜ (r ≡ x) × (r < 65536) ⌝ }
 {
     x as usize
@@ -37,7 +37,7 @@ fn wide16(x: u8) -> u16
 }
 
 // Event i of a list.
-pub fn read(list: &[u8], i: usize) -> Event
+pub(crate) fn read(list: &[u8], i: usize) -> Event
     requires { ⌜ (8 * i + 8 ≤ length (now list)) × (i < 512) ⌝ }
     ensures { λ e. ⌜ event e ≡ event-at (now (list .entry)) (8 * i) ⌝ }
 {
@@ -55,7 +55,7 @@ pub fn read(list: &[u8], i: usize) -> Event
 }
 
 // The process of event i, or 0 where there is none of that number: a place in the table of records.
-pub fn slot(list: &[u8], i: usize) -> usize
+pub(crate) fn slot(list: &[u8], i: usize) -> usize
     requires { ⌜ (8 * i + 8 ≤ length (now list)) × (i < 512) ⌝ }
     ensures { λ r. ⌜ (r < 32) × (getD (now (list .entry)) (8 * i + 1) 0 < 32 → r ≡ getD (now (list .entry)) (8 * i + 1) 0) ⌝ }
 {
@@ -89,7 +89,7 @@ fn is_wrong_number(e: Event) -> bool
 }
 
 // 10 to 13, or 0.
-pub fn shaped(n: usize, e: Event) -> u8
+pub(crate) fn shaped(n: usize, e: Event) -> u8
     ensures { λ r. ⌜ r ≡ shape n (event e) 0 ⌝ }
 {
     let p = e.process;

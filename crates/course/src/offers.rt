@@ -151,7 +151,7 @@ fn receive(
 }
 
 // Offer i, where k events are accepted and v values are carried so far, and r is the record of its process.
-pub fn offered(
+pub(crate) fn offered(
     n: usize,
     list: &[u8],
     i: usize,
@@ -243,7 +243,7 @@ fn end_after(strict: bool, accepted: usize, i: usize, end: usize) -> usize
 }
 
 // The offers of a list, in order. Class mode tries all of them; a strict course ends at the first that is refused.
-pub fn course(
+pub(crate) fn course(
     strict: bool,
     n: usize,
     m: usize,

@@ -74,7 +74,7 @@ fn next_bit(mask: u32, j: usize) -> usize
 }
 
 // The first n components, stored in `out` from `at` on.
-pub fn lay(clock: [u16; 32], n: usize, out: &mut [u16], at: usize)
+pub(crate) fn lay(clock: [u16; 32], n: usize, out: &mut [u16], at: usize)
     requires { ⌜ (at + n ≤ length (now out)) × (n ≤ 32) ⌝ }
     ensures { λ _. ⌜ now (out .exit) ≡ sets (now (out .entry)) at (upto (part clock) n) ⌝ }
 {
@@ -93,7 +93,7 @@ pub struct Cut {
 
 impl Record {
     // R1: every event of a process is counted first.
-    pub fn counted(mut self, by: Process) -> Record
+    pub(crate) fn counted(mut self, by: Process) -> Record
         requires { ⌜ (by .0 < 32) × (part (self .clock) (by .0) < 512) ⌝ }
         ensures { λ r. ⌜ view r ≡ counting (by .0) (view self) ⌝ }
     {
@@ -105,7 +105,7 @@ impl Record {
     }
 
     // R2: a send carries what grew since the last send to the same process.
-    pub fn cut(self, from: Process, to: Process, n: usize, out: &mut [u16], at: usize) -> Cut
+    pub(crate) fn cut(self, from: Process, to: Process, n: usize, out: &mut [u16], at: usize) -> Cut
         requires { ⌜ (from .0 < 32) × (to .0 < 32) × (part (self .clock) (from .0) < 512) × (at + n ≤ length (now out)) × (n ≤ 32) ⌝ }
         ensures { λ r. ⌜ view (r .«record») ≡ sending (from .0) (to .0) (counting (from .0) (view self)) ⌝ }
         ensures { λ r. ⌜ r .mask ≡ mask (news (counting (from .0) (view self)) (to .0)) n ⌝ }
@@ -133,7 +133,7 @@ impl Record {
     }
 
     // R3: a receive takes in a stamp with this mask, whose values stand from `at` on.
-    pub fn take(mut self, by: Process, mask: u32, values: &[u16], at: usize) -> Record
+    pub(crate) fn take(mut self, by: Process, mask: u32, values: &[u16], at: usize) -> Record
         requires { ⌜ (by .0 < 32) × (part (self .clock) (by .0) < 512) × (at ≤ length (now values)) ⌝ }
         ensures { λ r. ⌜ view r ≡ receiving (by .0) (unpacked mask (now (values .entry)) at) (counting (by .0) (view self)) ⌝ }
     {

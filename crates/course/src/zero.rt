@@ -4,7 +4,7 @@ ghost use Prim.Native.Nat.{_-_, _≤_};
 ghost use lib.ListN.{length, replicate};
 ghost use lib.Seq.{sets};
 
-pub fn clear16(slots: &mut [u16], from: usize, to: usize)
+pub(crate) fn clear16(slots: &mut [u16], from: usize, to: usize)
     requires { ⌜ (from ≤ to) × (to ≤ length (now slots)) ⌝ }
     ensures { λ _. ⌜ now (slots .exit) ≡ sets (now (slots .entry)) from (replicate (to - from) 0) ⌝ }
 {
@@ -15,7 +15,7 @@ pub fn clear16(slots: &mut [u16], from: usize, to: usize)
     }
 }
 
-pub fn clear32(slots: &mut [u32], from: usize, to: usize)
+pub(crate) fn clear32(slots: &mut [u32], from: usize, to: usize)
     requires { ⌜ (from ≤ to) × (to ≤ length (now slots)) ⌝ }
     ensures { λ _. ⌜ now (slots .exit) ≡ sets (now (slots .entry)) from (replicate (to - from) 0) ⌝ }
 {

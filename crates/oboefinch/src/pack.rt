@@ -6,14 +6,14 @@ ghost use Rattle.oboefinch.specs.Packed.{packed, refusal-fields, verdict
 use clock::Refusal;
 use clock::Verdict;
 
-pub fn fields(number: u8, x: usize, y: usize, z: usize) -> u64
+pub(crate) fn fields(number: u8, x: usize, y: usize, z: usize) -> u64
     requires { ⌜ (x < 256) × (y < 65536) × (z < 65536) ⌝ }
     ensures { λ r. ⌜ r ≡ packed (record { number = number; x = x; y = y; z = z }) ⌝ }
 {
     (number as u64) + 256 * (x as u64) + 65536 * (y as u64) + 4294967296 * (z as u64)
 }
 
-pub fn refusal(r: Refusal) -> u64
+pub(crate) fn refusal(r: Refusal) -> u64
     requires { ⌜ r .position .0 < 65536 ⌝ }
     ensures { λ a. ⌜ a ≡ packed (refusal-fields (said.refusal r)) ⌝ }
 {
@@ -30,7 +30,7 @@ fn verdict_number(v: Verdict) -> usize
     }
 }
 
-pub fn verdict(v: Verdict) -> u64
+pub(crate) fn verdict(v: Verdict) -> u64
     ensures { λ a. ⌜ a ≡ packed (verdict-fields (said.number v)) ⌝ }
 {
     fields(0, verdict_number(v), 0, 0)

@@ -88,7 +88,7 @@ fn sender(list: &[u8], message: Message) -> Position
 }
 
 // The positions of the chain's sends, in causal order, at the front of the output; and how many they are.
-pub fn walk(
+pub(crate) fn walk(
     n: usize,
     list: &[u8],
     clocks: &[u16],
