@@ -1,17 +1,18 @@
 -- The walk of a mask by trailing zeros: the number of zeros below the lowest set bit of what is left is that bit's place.
 use Prim.Native.Nat.{ℕ, zero, suc, _+_, _-_, _*_, _/_, _%_, _^_, _≤_, _<_}
 use mathlib.Core.Bool.{Bool, true, false, cond}
-use mathlib.Core.Path.{_≡_, refl, sym, _∙_}
+use mathlib.Core.Path.{_≡_, refl, sym, ap, _∙_}
 use mathlib.Core.Logic.{_⊎_, inl, inr}
-use native.Mathlib.Nat.{eq-or-lt-of-le, pow-suc, div-one, div-eq-of-lt, lt-of-lt-of-le, zero-div}
+use native.Mathlib.Nat.{eq-or-lt-of-le, pow-suc, div-one, zero-div, mul-assoc, div-mul-le-self}
+use native.Mathlib.Numerals.{add-one}
 use native.Mathlib.Omega.{arith}
 use native.Mathlib.Decide.{decLt}
 use borrow.Author.Tests.{eq-eqb, ne-eqb}
 use lib.Count.{trailingZeros, under}
-use lib.Pow.{shr-le, pow-mono, shr-shr, shl-exact}
+use lib.Bits.{bitAnd, and-step, and-self, shifted-even}
+use lib.Pow.{pow-mono, pow-add, shr-shr, shl-shr, shl-exact}
 use Rattle.paper.specs.Stamp.{mask, count, bit}
 use Rattle.paper.proofs.Laws.Masks.{mask-lt}
-use Rattle.course.specs.Walk.{Next}
 
 -- Bit k in a word of 32 bits, and a mask with that bit.
 pub one-shl : (k : ℕ) → k < 32 → (1 * 2 ^ k) % 2 ^ 32 ≡ 2 ^ k
@@ -59,54 +60,69 @@ lowest (suc w) m p h = go (m % 2) refl (lowest w (m / 2))
     go (suc zero) e ih = record { inside = omega arith; here = rw div-one e; below = λ s q. absurd (omega arith) }
     go (suc (suc d)) e ih = absurd (omega arith)
 
-bit-inside : (w m k : ℕ) → m < 2 ^ w → m / 2 ^ k % 2 ≡ 1 → k < w
-bit-inside w m k h e = go (decLt k w)
+-- What is left of a number once its lowest set bit is taken off: all above that bit.
+taken-off : (w m : ℕ) → 0 < m → m < 2 ^ w → bitAnd m (m - 1) ≡ m / 2 ^ suc (trailingZeros w m) * 2 ^ suc (trailingZeros w m)
+unfolding trailingZeros
+taken-off zero m p h = absurd (omega arith)
+taken-off (suc w) m p h = go (m % 2) refl (taken-off w (m / 2))
   where
-    go : Dec (k < w) → k < w
-    go (yes q) = q
-    go (no q) =
-        let z : m / 2 ^ k ≡ 0 = div-eq-of-lt (lt-of-lt-of-le h (pow-mono (omega arith))) in absurd (omega (arith, rw z at e))
+    go : (d : ℕ) → m % 2 ≡ d
+        → (0 < m / 2 → m / 2 < 2 ^ w → bitAnd (m / 2) (m / 2 - 1) ≡ m / 2 / 2 ^ suc (trailingZeros w (m / 2)) * 2 ^ suc (trailingZeros w (m / 2)))
+        → bitAnd m (m - 1) ≡ m / 2 ^ suc (under d (trailingZeros w (m / 2))) * 2 ^ suc (under d (trailingZeros w (m / 2)))
+    go zero e ih =
+        let t = suc (trailingZeros w (m / 2)) in
+        let lower : (m - 1) / 2 ≡ m / 2 - 1 = omega arith in
+        let odd : (m - 1) % 2 ≡ 1 = omega arith in
+        let q : bitAnd (m / 2) (m / 2 - 1) ≡ m / 2 / 2 ^ t * 2 ^ t = ih (omega arith) (omega (arith, rw pow-suc at h)) in
+        and-step m (m - 1) ∙ rw (lower, e, odd, half m t, pow-suc 2 t, q) (omega (arith, mul-assoc (m / 2 / 2 ^ t) (2 ^ t) 2))
+    go (suc zero) e ih =
+        let lower : (m - 1) / 2 ≡ m / 2 = omega arith in
+        let even : (m - 1) % 2 ≡ 0 = omega arith in
+        and-step m (m - 1) ∙ rw (lower, e, even, and-self (m / 2)) (omega arith)
+    go (suc (suc d)) e ih = absurd (omega arith)
 
--- The next set bit k of a mask m₀ of 32 bits from place j on, found in the rest m of the mask, with what is left behind it.
-record Ahead (m₀ j m t : ℕ) : Type 0 where
-  pub inside : j + t < 32
-  pub here : bit m₀ (j + t) ≡ true
-  pub between : (s : ℕ) → j ≤ s → s < j + t → bit m₀ s ≡ false
-  pub rest : m / 2 ^ t / 2 ≡ m₀ / 2 ^ (j + t + 1)
+-- The bits from k on of a mask whose lower bits are gone.
+above : (m k j : ℕ) → m / 2 ^ k * 2 ^ k / 2 ^ (k + j) ≡ m / 2 ^ (k + j)
+above m k j = sym (shr-shr (m / 2 ^ k * 2 ^ k) k j) ∙ ap (λ (x : ℕ). x / 2 ^ j) (shl-shr (m / 2 ^ k) k) ∙ shr-shr m k j
 
-next : (m₀ j m : ℕ) → m₀ < 2 ^ 32 → m ≡ m₀ / 2 ^ j → (m ≡ 0 → ⊥) → Ahead m₀ j m (trailingZeros 32 m)
-next m₀ j m h e z =
-    let r : Lowest 32 m (trailingZeros 32 m) = lowest 32 m (omega arith) (omega (arith, shr-le m₀ j)) in
-    let t = trailingZeros 32 m in
-    let at : (s : ℕ) → m / 2 ^ s ≡ m₀ / 2 ^ (j + s) = λ s. rw e (shr-shr m₀ j s) in
-    let one : m₀ / 2 ^ (j + t) % 2 ≡ 1 = rw (← at t) (r .here) in
+gone : (m k t : ℕ) → t < k → m / 2 ^ k * 2 ^ k / 2 ^ t % 2 ≡ 0
+gone m k t h =
+    let d : k ≡ suc (k - suc t) + t = omega arith in
+    let e : m / 2 ^ k * 2 ^ k ≡ m / 2 ^ k * 2 ^ suc (k - suc t) * 2 ^ t =
+    ap (λ (x : ℕ). m / 2 ^ k * x) (ap (_^_ 2) d ∙ pow-add 2 (suc (k - suc t)) t) ∙ sym (mul-assoc (m / 2 ^ k) _ _) in
+    rw (e, shl-shr) (shifted-even (m / 2 ^ k) (k - suc t))
+
+-- The lowest bit t of the rest of a mask whose bits below k are gone, and what is left behind it.
+pub record Ahead (m k rest t : ℕ) : Type 0 where
+  pub ahead : k ≤ t
+  pub inside : t < 32
+  pub here : bit m t ≡ true
+  pub between : (s : ℕ) → k ≤ s → s < t → bit m s ≡ false
+  pub left : bitAnd rest (rest - 1) ≡ m / 2 ^ (t + 1) * 2 ^ (t + 1)
+
+pub next : (m k rest : ℕ) → m < 2 ^ 32 → rest ≡ m / 2 ^ k * 2 ^ k → (rest ≡ 0 → ⊥) → Ahead m k rest (trailingZeros 32 rest)
+next m k rest h e z =
+    let small : rest < 2 ^ 32 = omega (arith, div-mul-le-self m (2 ^ k)) in
+    let r : Lowest 32 rest (trailingZeros 32 rest) = lowest 32 rest (omega arith) small in
+    let t = trailingZeros 32 rest in
+    let on : k ≤ t = not-below (decLt t k) (r .here) in
+    let same : (s : ℕ) → k ≤ s → rest / 2 ^ s ≡ m / 2 ^ s =
+    λ s l. let d : s ≡ k + (s - k) = omega arith in rw (d, e) (above m k (s - k)) in
     record {
-      inside = bit-inside 32 m₀ (j + t) h one;
-      here = eq-eqb _ _ one;
-      between =
-          λ s a b.
-          let d : s ≡ j + (s - j) = omega arith in
-          let o : m₀ / 2 ^ s % 2 ≡ 0 = rw (d, ← at (s - j)) (r .below (s - j) (omega arith)) in
-          ne-eqb (m₀ / 2 ^ s % 2) 1 (λ q. omega arith);
-      rest = rw (at t) (shr-shr m₀ (j + t) 1);
+      ahead = on;
+      inside = r .inside;
+      here = eq-eqb (m / 2 ^ t % 2) 1 (rw (← same t on) (r .here));
+      between = λ s l b. let o : m / 2 ^ s % 2 ≡ 0 = rw (← same s l) (r .below s b) in ne-eqb (m / 2 ^ s % 2) 1 (λ q. omega arith);
+      left = taken-off 32 rest (omega arith) small ∙ rw (← add-one t, same (t + 1) (omega arith));
     }
+  where
+    not-below : {t : ℕ} → Dec (t < k) → rest / 2 ^ t % 2 ≡ 1 → k ≤ t
+    not-below (no q) one = omega arith
+    not-below {t} (yes q) one = absurd (omega (arith, gone m k t q, rw e at one))
 
 -- Behind the last set bit.
-no-more : (m₀ j : ℕ) → m₀ / 2 ^ j ≡ 0 → (s : ℕ) → j ≤ s → bit m₀ s ≡ false
-no-more m₀ j z s h =
-    let d : s ≡ j + (s - j) = omega arith in
-    let o : m₀ / 2 ^ s ≡ 0 = rw (d, ← shr-shr m₀ j (s - j), z) (zero-div _) in
-    ne-eqb (m₀ / 2 ^ s % 2) 1 (λ q. omega (arith, rw o at q))
-
-pub next-found : (m j : ℕ) → m < 2 ^ 32 → (m / 2 ^ j ≡ 0 → ⊥) → Next m j (j + trailingZeros 32 (m / 2 ^ j))
-next-found m j h z =
-    let n = next m j (m / 2 ^ j) h refl z in
-    record { ahead = omega arith; inside = omega (arith, n .inside); between = n .between; here = λ q. n .here }
-
-pub next-none : (m j : ℕ) → j ≤ 32 → m / 2 ^ j ≡ 0 → Next m j 32
-next-none m j h z =
-    record { ahead = h; inside = omega arith; between = λ s p q. no-more m j z s p; here = λ q. absurd (omega arith) }
-
-pub next-end : (m j : ℕ) → j ≤ 32 → 32 ≤ j → Next m j 32
-next-end m j h e =
-    record { ahead = h; inside = omega arith; between = λ s p q. absurd (omega arith); here = λ q. absurd (omega arith) }
+pub no-more : (m k : ℕ) → m / 2 ^ k * 2 ^ k ≡ 0 → (s : ℕ) → k ≤ s → bit m s ≡ false
+no-more m k z s h =
+    let d : s ≡ k + (s - k) = omega arith in
+    let o : m / 2 ^ s ≡ 0 = rw d (sym (above m k (s - k)) ∙ rw z (zero-div _)) in
+    ne-eqb (m / 2 ^ s % 2) 1 (λ q. omega (arith, rw o at q))

@@ -21,7 +21,7 @@ use Rattle.paper.proofs.Laws.Slots.{length-stamps}
 use Rattle.course.specs.Course.{Lent, All-accepted, Stopped, Through, Ran}
 use Rattle.course.specs.Turn.{Moved, state-at, stamps-at, process-at}
 use Rattle.course.specs.declared.record.Record.{Record}
-use Rattle.course.proofs.Loop.{At, absent, at-turn, few-accepted}
+use Rattle.course.proofs.Loop.{At, row, at-turn, few-accepted}
 
 -- Whether the course goes on: to the last offer, with none refused so far if it is strict; or it stopped at the offer before.
 abbrev pub Going : Bool → ℕ → ℕ → List ℕ → ℕ → ℕ → Type 0
@@ -81,26 +81,26 @@ module _ (strict : Bool) (n m : ℕ) (l : List ℕ) (i end one : ℕ) (going : G
       )
 
 -- The loop's invariant, for the end that is set so far.
-pub record Underway (strict : Bool) (n m : ℕ) (l clocks₀ masks₀ vals₀ told₀ clocks masks vals told : List ℕ) (rs : List Record)
+pub record Underway (strict : Bool) (n m : ℕ) (l clocks₀ masks₀ vals₀ told₀ clocks masks vals told : List ℕ) (vs us ss : List (List ℕ))
     (number channel order place sent received head next : List ℕ) (end k v i : ℕ) : Type 0 where
-  pub at : At n m l clocks₀ masks₀ vals₀ told₀ clocks masks vals told rs number channel order place sent received head next k v i
+  pub at : At n m l clocks₀ masks₀ vals₀ told₀ clocks masks vals told vs us ss number channel order place sent received head next k v i
   pub going : Going strict n m l i end
   pub low : i ≤ end
   pub high : end ≤ m
 
-module _ (strict : Bool) (n m : ℕ) (l clocks₀ masks₀ vals₀ told₀ clocks masks vals told : List ℕ) (rs : List Record)
+module _ (strict : Bool) (n m : ℕ) (l clocks₀ masks₀ vals₀ told₀ clocks masks vals told : List ℕ) (vs us ss : List (List ℕ))
     (number channel order place sent received head next : List ℕ) (end k v i : ℕ) (room : Lent n m l clocks₀ masks₀ vals₀ told₀)
-    (u : Underway strict n m l clocks₀ masks₀ vals₀ told₀ clocks masks vals told rs number channel order place sent received head next end k v i) where
+    (u : Underway strict n m l clocks₀ masks₀ vals₀ told₀ clocks masks vals told vs us ss number channel order place sent received head next end k v i) where
   pub turned :
       (more : i < end) (p : ℕ) → (process-at l i < 32 → p ≡ process-at l i) → p < 32 → (r′ : Record) (one some end′ : ℕ)
       (number′ channel′ order′ place′ sent′ received′ head′ next′ clocks′ masks′ vals′ told′ : List ℕ)
-      → Moved n l i k v (getD rs p absent) r′ one some number′ channel′ order′ place′ sent′ received′ head′ next′ clocks masks vals told clocks′ masks′ vals′ told′
+      → Moved n l i k v (row vs us ss p) r′ one some number′ channel′ order′ place′ sent′ received′ head′ next′ clocks masks vals told clocks′ masks′ vals′ told′
       → end′ ≡ cond (strict && eqb one 0) (i + 1) end
-      → Underway strict n m l clocks₀ masks₀ vals₀ told₀ clocks′ masks′ vals′ told′ (set rs p r′) number′ channel′ order′ place′ sent′ received′ head′ next′ end′ (k + one) (v + some) (i + 1)
+      → Underway strict n m l clocks₀ masks₀ vals₀ told₀ clocks′ masks′ vals′ told′ (set vs p (r′ .clock)) (set us p (r′ .updated)) (set ss p (r′ .sent)) number′ channel′ order′ place′ sent′ received′ head′ next′ end′ (k + one) (v + some) (i + 1)
   turned more p is small r′ one some end′ number′ channel′ order′ place′ sent′ received′ head′ next′ clocks′ masks′ vals′ told′ moved q =
       let g = going-turn strict n m l i end one (u .going) more (moved .accepted) end′ q in
       record {
-        at = at-turn n m l clocks₀ masks₀ vals₀ told₀ clocks masks vals told rs number channel order place sent received head next k v i room (u .at)
+        at = at-turn n m l clocks₀ masks₀ vals₀ told₀ clocks masks vals told vs us ss number channel order place sent received head next k v i room (u .at)
             (omega (arith, u .high)) p is small r′ one some number′ channel′ order′ place′ sent′ received′ head′ next′ clocks′ masks′ vals′ told′ moved;
         going = g .0;
         low = g .1;
@@ -111,11 +111,11 @@ module _ (strict : Bool) (n m : ℕ) (l clocks₀ masks₀ vals₀ told₀ clock
   pub small :
       (more : i < end) (p : ℕ) → (process-at l i < 32 → p ≡ process-at l i) → p < 32 → (r′ : Record) (one some : ℕ)
       (number′ channel′ order′ place′ sent′ received′ head′ next′ clocks′ masks′ vals′ told′ : List ℕ)
-      → Moved n l i k v (getD rs p absent) r′ one some number′ channel′ order′ place′ sent′ received′ head′ next′ clocks masks vals told clocks′ masks′ vals′ told′
+      → Moved n l i k v (row vs us ss p) r′ one some number′ channel′ order′ place′ sent′ received′ head′ next′ clocks masks vals told clocks′ masks′ vals′ told′
       → (k + one ≤ 512) × (v + some ≤ 16384)
   small more p is few r′ one some number′ channel′ order′ place′ sent′ received′ head′ next′ clocks′ masks′ vals′ told′ moved =
       let t = turned more p is few r′ one some _ number′ channel′ order′ place′ sent′ received′ head′ next′ clocks′ masks′ vals′ told′ moved refl .at in
-      let a = few-accepted n m l clocks₀ masks₀ vals₀ told₀ clocks′ masks′ vals′ told′ (set rs p r′) number′ channel′ order′ place′ sent′ received′ head′ next′ _ _ _ room t in
+      let a = few-accepted n m l clocks₀ masks₀ vals₀ told₀ clocks′ masks′ vals′ told′ (set vs p (r′ .clock)) (set us p (r′ .updated)) (set ss p (r′ .sent)) number′ channel′ order′ place′ sent′ received′ head′ next′ _ _ _ room t in
       (omega (arith, u .high, room .short), omega (arith, t .low, mul-le-mul (room .few) a, u .high, room .short))
 
   pub ran : end ≤ i → Ran strict n m l clocks₀ masks₀ vals₀ told₀ clocks masks vals told i k v

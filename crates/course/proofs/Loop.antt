@@ -2,7 +2,7 @@
 use Prim.Native.Nat.{ℕ, zero, suc, _+_, _*_, _≤_, _<_}
 use mathlib.Core.Bool.{false≢true}
 use mathlib.Core.List.{List, [], _∷_, _++_, flatMap}
-use mathlib.Core.Path.{_≡_, refl, sym, ap, ap₂, _∙_}
+use mathlib.Core.Path.{_≡_, refl, sym, ap, ap₂, _∙_, subst}
 use mathlib.Core.Logic.{_≢_}
 use native.Mathlib.Omega.{arith}
 use native.Mathlib.Decide.{ℕ-discrete}
@@ -28,13 +28,17 @@ use Rattle.paper.proofs.Sizes.{sized}
 use Rattle.course.specs.Course.{Lent}
 use Rattle.course.specs.Ledger.{Row, Ledger, Chained, Long}
 use Rattle.course.specs.Turn.{Ready, Moved, state-at, records-at, stamps-at, process-at}
-use Rattle.course.specs.View.{view}
+use Rattle.course.specs.View.{view, viewing, as-record, Whole}
 use Rattle.course.specs.declared.record.Record.{Record}
 
-abbrev pub absent : Record
-absent = record { clock = []; updated = []; sent = [] }
+abbrev Entire : Record → Type 0
+Entire r = Whole (r .clock) (r .updated) (r .sent)
 
-pub record At (n m : ℕ) (l clocks₀ masks₀ vals₀ told₀ clocks masks vals told : List ℕ) (rs : List Record)
+-- The record of process p, whose three arrays stand at p in three tables.
+abbrev pub row : List (List ℕ) → List (List ℕ) → List (List ℕ) → ℕ → Record
+row vs us ss p = as-record (getD vs p []) (getD us p []) (getD ss p [])
+
+pub record At (n m : ℕ) (l clocks₀ masks₀ vals₀ told₀ clocks masks vals told : List ℕ) (vs us ss : List (List ℕ))
     (number channel order place sent received head next : List ℕ) (k v i : ℕ) : Type 0 where
   pub inside : i ≤ m
   pub accepted : k ≡ length (stamps-at n l i)
@@ -43,8 +47,9 @@ pub record At (n m : ℕ) (l clocks₀ masks₀ vals₀ told₀ clocks masks val
   pub long : Long number channel order place sent received head next
   pub chained : Chained number head next k
   pub ledger : Ledger (state-at n l i) (records-at n l i) (stamps-at n l i) number channel order place sent received
-  pub many : length rs ≡ 32
-  pub mine : (p : ℕ) → p < 32 → view (getD rs p absent) ≡ records-at n l i .running p
+  pub many : (length vs ≡ 32) × (length us ≡ 32) × (length ss ≡ 32)
+  pub whole : (p : ℕ) → p < 32 → Whole (getD vs p []) (getD us p []) (getD ss p [])
+  pub mine : (p : ℕ) → p < 32 → view (row vs us ss p) ≡ records-at n l i .running p
   pub clock : clocks ≡ sets clocks₀ 0 (clock-slots n (clocked n start (first-events i l)))
   pub mask : masks ≡ sets masks₀ 0 (mask-slots (stamps-at n l i))
   pub value : vals ≡ sets vals₀ 0 (value-slots (stamps-at n l i))
@@ -64,10 +69,10 @@ same-many n s x e = go (ℕ-discrete (answer n s e) 0)
     go (yes q) = rw (record-stamps-yes n s x e q, clocked-yes n s x e q)
     go (no q) = rw (record-stamps-no n s x e q, clocked-no n s x e q)
 
-module _ (n m : ℕ) (l clocks₀ masks₀ vals₀ told₀ clocks masks vals told : List ℕ) (rs : List Record)
+module _ (n m : ℕ) (l clocks₀ masks₀ vals₀ told₀ clocks masks vals told : List ℕ) (vs us ss : List (List ℕ))
     (number channel order place sent received head next : List ℕ) (k v i : ℕ)
     (room : Lent n m l clocks₀ masks₀ vals₀ told₀)
-    (at : At n m l clocks₀ masks₀ vals₀ told₀ clocks masks vals told rs number channel order place sent received head next k v i) where
+    (at : At n m l clocks₀ masks₀ vals₀ told₀ clocks masks vals told vs us ss number channel order place sent received head next k v i) where
   abbrev ts : List Stamp
   ts = stamps-at n l i
 
@@ -89,9 +94,9 @@ module _ (n m : ℕ) (l clocks₀ masks₀ vals₀ told₀ clocks masks vals tol
         let h : n * (k + 1) ≤ n * m = mul-le-mul (le-refl n) (omega (arith, few-accepted)) in
         omega (arith, mul-add n k 1)
 
-    pub at-ready : (p : ℕ) → (process-at l i < 32 → p ≡ process-at l i)
-        → Ready n l i k v (getD rs p absent) number channel order place sent received head next clocks masks vals told
-    at-ready p is =
+    pub at-ready : (p : ℕ) → (process-at l i < 32 → p ≡ process-at l i) → p < 32
+        → Ready n l i k v (row vs us ss p) number channel order place sent received head next clocks masks vals told
+    at-ready p is small =
         record {
           some = room .some;
           few = room .few;
@@ -117,12 +122,13 @@ module _ (n m : ℕ) (l clocks₀ masks₀ vals₀ told₀ clocks masks vals tol
                     rw (at .value)
                     (rw zero-add at (getD-sets vals₀ (value-slots ts) 0 c (omega (arith, at .carried, at .low, next-clock, room .value)) h));
               };
+          whole = at .whole p small;
           mine = λ h. rw (sym (is h)) (at .mine p (rw (is h) h));
         }
 
     module _ (p : ℕ) (is : process-at l i < 32 → p ≡ process-at l i) (small : p < 32) (r′ : Record) (one some : ℕ)
         (number′ channel′ order′ place′ sent′ received′ head′ next′ clocks′ masks′ vals′ told′ : List ℕ)
-        (moved : Moved n l i k v (getD rs p absent) r′ one some number′ channel′ order′ place′ sent′ received′ head′ next′ clocks masks vals told clocks′ masks′ vals′ told′) where
+        (moved : Moved n l i k v (row vs us ss p) r′ one some number′ channel′ order′ place′ sent′ received′ head′ next′ clocks masks vals told clocks′ masks′ vals′ told′) where
       abbrev e : Event
       e = event-at l (8 * i)
 
@@ -163,14 +169,38 @@ module _ (n m : ℕ) (l clocks₀ masks₀ vals₀ told₀ clocks masks vals tol
               rw (records-yes n s x e y) (at-other (x .running) (process-at l i) _ q (λ z. ne (z ∙ sym (is h))))
           go (no y) = rw (records-no n s x e y)
 
-      mine-next : (q : ℕ) → q < 32 → view (getD (set rs p r′) q absent) ≡ records n s x (e ∷ []) .running q
+      abbrev vs′ : List (List ℕ)
+      vs′ = set vs p (r′ .clock)
+
+      abbrev us′ : List (List ℕ)
+      us′ = set us p (r′ .updated)
+
+      abbrev ss′ : List (List ℕ)
+      ss′ = set ss p (r′ .sent)
+
+      same-row : row vs′ us′ ss′ p ≡ r′
+      same-row =
+          let m = at .many in
+          rw (getD-set-same vs p (r′ .clock) [] (omega arith), getD-set-same us p (r′ .updated) [] (omega arith), getD-set-same ss p (r′ .sent) [] (omega arith))
+
+      other-row : (q : ℕ) → q ≢ p → row vs′ us′ ss′ q ≡ row vs us ss q
+      other-row q y = rw (getD-set-other vs p q (r′ .clock) [] y, getD-set-other us p q (r′ .updated) [] y, getD-set-other ss p q (r′ .sent) [] y)
+
+      mine-next : (q : ℕ) → q < 32 → view (row vs′ us′ ss′ q) ≡ records n s x (e ∷ []) .running q
       mine-next q h = go (ℕ-discrete q p)
         where
-          go : Dec (q ≡ p) → view (getD (set rs p r′) q absent) ≡ records n s x (e ∷ []) .running q
-          go (yes y) = rw (y, getD-set-same rs p r′ absent (omega (arith, at .many))) (moved .mine p is (at .mine p small))
-          go (no y) = rw (getD-set-other rs p q r′ absent y, others q y) (at .mine q h)
+          go : Dec (q ≡ p) → view (row vs′ us′ ss′ q) ≡ records n s x (e ∷ []) .running q
+          go (yes y) = rw y (ap view same-row ∙ moved .mine p is (at .mine p small))
+          go (no y) = ap view (other-row q y) ∙ rw (others q y) (at .mine q h)
 
-      pub at-turn : At n m l clocks₀ masks₀ vals₀ told₀ clocks′ masks′ vals′ told′ (set rs p r′) number′ channel′ order′ place′ sent′ received′ head′ next′ (k + one) (v + some) (i + 1)
+      whole-next : (q : ℕ) → q < 32 → Entire (row vs′ us′ ss′ q)
+      whole-next q h = go (ℕ-discrete q p)
+        where
+          go : Dec (q ≡ p) → Entire (row vs′ us′ ss′ q)
+          go (yes y) = rw y (subst Entire (sym same-row) (moved .whole))
+          go (no y) = subst Entire (sym (other-row q y)) (at .whole q h)
+
+      pub at-turn : At n m l clocks₀ masks₀ vals₀ told₀ clocks′ masks′ vals′ told′ (set vs p (r′ .clock)) (set us p (r′ .updated)) (set ss p (r′ .sent)) number′ channel′ order′ place′ sent′ received′ head′ next′ (k + one) (v + some) (i + 1)
       at-turn =
           record {
             inside = omega arith;
@@ -180,7 +210,8 @@ module _ (n m : ℕ) (l clocks₀ masks₀ vals₀ told₀ clocks masks vals tol
             long = moved .long;
             chained = moved .chained;
             ledger = rw (next-state, next-records, next-stamps) (moved .ledger);
-            many = length-set rs p r′ ∙ at .many;
+            many = let m = at .many in (length-set vs p _ ∙ m .0, length-set us p _ ∙ m .1, length-set ss p _ ∙ m .2);
+            whole = whole-next;
             mine = λ q h. rw next-records (mine-next q h);
             clock =
                 let z : n * k ≡ 0 + length (clock-slots n cs) = omega (arith, clocks-long, ap (_*_ n) (at .accepted ∙ count-same)) in
@@ -205,11 +236,11 @@ module _ (n m : ℕ) (l clocks₀ masks₀ vals₀ told₀ clocks masks vals tol
           }
 
 -- No buffer changes its length.
-pub at-long : (n m : ℕ) (l clocks₀ masks₀ vals₀ told₀ clocks masks vals told : List ℕ) (rs : List Record)
+pub at-long : (n m : ℕ) (l clocks₀ masks₀ vals₀ told₀ clocks masks vals told : List ℕ) (vs us ss : List (List ℕ))
     (number channel order place sent received head next : List ℕ) (k v i : ℕ)
-    → At n m l clocks₀ masks₀ vals₀ told₀ clocks masks vals told rs number channel order place sent received head next k v i
+    → At n m l clocks₀ masks₀ vals₀ told₀ clocks masks vals told vs us ss number channel order place sent received head next k v i
     → (length clocks ≡ length clocks₀) × (length masks ≡ length masks₀) × (length vals ≡ length vals₀) × (length told ≡ length told₀)
-at-long n m l clocks₀ masks₀ vals₀ told₀ clocks masks vals told rs number channel order place sent received head next k v i at =
+at-long n m l clocks₀ masks₀ vals₀ told₀ clocks masks vals told vs us ss number channel order place sent received head next k v i at =
     (rw (at .clock, length-sets), rw (at .mask, length-sets), rw (at .value, length-sets), rw (at .answer, length-sets))
 
 zeros : (n a : ℕ) → getD (replicate n 0) a 0 ≤ 0
@@ -220,17 +251,17 @@ zeros (suc n) (suc a) = zeros n a
 no-number : (n a : ℕ) → part (replicate n 0) a ≢ 0 → ⊥
 no-number n a h = h (omega (arith, zeros n a))
 
-abbrev empty : ℕ → Record
-empty w = record { clock = replicate w 0; updated = replicate w 0; sent = replicate w 0 }
+abbrev zeros-of : ℕ → List ℕ
+zeros-of w = replicate w 0
 
-pub empty-view : view (empty 32) ≡ fresh
+pub empty-view : viewing (zeros-of 32) (zeros-of 32) (zeros-of 32) ≡ fresh
 unfolding fresh zero-clock
 empty-view =
     let z : (k : ℕ) → part (replicate 32 0) k ≡ 0 = λ k. omega (arith, zeros 32 k) in
     λ d. record { clock = replicate 32 0; last-update = λ k. z k d; last-sent = λ j. z j d }
 
 pub at-start : (n m : ℕ) (l clocks masks vals told : List ℕ)
-    → At n m l clocks masks vals told clocks masks vals told (replicate 32 (empty 32)) (replicate 512 0) (replicate 512 0) (replicate 512 0) (replicate 512 0)
+    → At n m l clocks masks vals told clocks masks vals told (replicate 32 (zeros-of 32)) (replicate 32 (zeros-of 32)) (replicate 32 (zeros-of 32)) (replicate 512 0) (replicate 512 0) (replicate 512 0) (replicate 512 0)
     (replicate 1024 0) (replicate 1024 0) (replicate 1024 0) (replicate 512 0) 0 0 0
 unfolding first-events run start records fresh-records record-stamps clocked answers value-slots clock-slots Row member flatMap
 at-start n m l clocks masks vals told =
@@ -271,8 +302,9 @@ at-start n m l clocks masks vals told =
             few = λ c. omega (arith, zeros 1024 c);
             places = λ a h. absurd (no-number 512 a h);
           };
-      many = length-replicate 32 (empty 32);
-      mine = λ p h. rw (getD-replicate 32 p (empty 32) absent h) empty-view;
+      many = let z = length-replicate 32 (zeros-of 32) in (z, z, z);
+      whole = λ p h. rw (getD-replicate 32 p (zeros-of 32) [] h) (let z = length-replicate {A = ℕ} 32 0 in record { clock = z; updated = z; sent = z });
+      mine = λ p h. rw (getD-replicate 32 p (zeros-of 32) [] h) empty-view;
       clock = refl;
       mask = refl;
       value = refl;

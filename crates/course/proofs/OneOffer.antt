@@ -29,7 +29,7 @@ use Rattle.paper.proofs.Stamps.Runs.{after}
 use Rattle.course.specs.Ledger.{Ledger, Chained, Long}
 use Rattle.course.specs.Tables.{Found, channel-of, late}
 use Rattle.course.specs.Turn.{Ready, Moved, state-at, records-at, stamps-at, process-at}
-use Rattle.course.specs.View.{view}
+use Rattle.course.specs.View.{view, Whole}
 use Rattle.course.specs.declared.record.Record.{Record}
 use Rattle.course.proofs.Chains.{chained-same, chained-more}
 use Rattle.course.proofs.Judging.{judged-alike, sent-here}
@@ -97,6 +97,7 @@ module _ (n : ℕ) (l : List ℕ) (i k v : ℕ) (r : Record) (number channel ord
         long = ready .long;
         chained = rw add-zero (ready .chained);
         ledger = rw (is, run-no n s x e no, records-no n s x e no, record-stamps-no n s x e no, append-nil) (ready .ledger);
+        whole = ready .whole;
         mine = λ q h w. rw (is, records-no n s x e no) w;
         clock = rw (is, clocked-no n s x e no);
         mask = rw (is, record-stamps-no n s x e no);
@@ -130,13 +131,13 @@ module _ (n : ℕ) (l : List ℕ) (i k v : ℕ) (r : Record) (number channel ord
 
     -- An accepted event whose stamp is t.
     moved : (r′ : Record) (more many a : ℕ) (t : Stamp) (number′ channel′ order′ place′ sent′ received′ head′ next′ clocks′ masks′ vals′ : List ℕ)
-        → more ≡ 1 → a ≡ 0 → view r′ ≡ recorded x e .running (e .process) → record-stamp x e ≡ t
+        → more ≡ 1 → a ≡ 0 → view r′ ≡ recorded x e .running (e .process) → Whole (r′ .clock) (r′ .updated) (r′ .sent) → record-stamp x e ≡ t
         → many ≡ length (t .values) → many ≤ n → Long number′ channel′ order′ place′ sent′ received′ head′ next′ → Chained number′ head′ next′ (k + 1)
         → Ledger (accepted s e) (recorded x e) (ts ++ (t ∷ [])) number′ channel′ order′ place′ sent′ received′
         → clocks′ ≡ sets clocks (n * k) (upto (part (r′ .clock)) n) → masks′ ≡ set masks k (t .mask) → vals′ ≡ sets vals v (t .values)
         → Moved n l i k v r r′ more many number′ channel′ order′ place′ sent′ received′ head′ next′ clocks masks vals answers clocks′ masks′ vals′ (set answers i a)
     unfolding clock-slots value-slots flatMap
-    moved r′ more many a t number′ channel′ order′ place′ sent′ received′ head′ next′ clocks′ masks′ vals′ one nil er et em en long chained led ec ek ev =
+    moved r′ more many a t number′ channel′ order′ place′ sent′ received′ head′ next′ clocks′ masks′ vals′ one nil er whole et em en long chained led ec ek ev =
         let same : r′ .clock ≡ event-clock s e =
         ap (λ (w : Running). w .clock) er ∙ new-clock in
         let st : record-stamps n s x (e ∷ []) ≡ t ∷ [] = record-stamps-yes n s x e yea ∙ ap (λ (u : Stamp). u ∷ []) et in
@@ -147,6 +148,7 @@ module _ (n : ℕ) (l : List ℕ) (i k v : ℕ) (r : Record) (number channel ord
           long = long;
           chained = rw one chained;
           ledger = rw (is, run-yes n s x e yea, records-yes n s x e yea, st) led;
+          whole = whole;
           mine = λ q h w. rw (is, records-yes n s x e yea, h (rw process-is p-small), process-is) er;
           clock = rw (is, clocked-yes n s x e yea, append-nil, take-upto (event-clock s e) n (omega (arith, new-size, ready .few)), ← same) ec;
           mask = rw (is, st) ek;
@@ -154,13 +156,14 @@ module _ (n : ℕ) (l : List ℕ) (i k v : ℕ) (r : Record) (number channel ord
           answer = rw is (ap (set answers i) (nil ∙ sym yea));
         }
 
-    pub internal-moved : (r′ : Record) (more many a : ℕ) (clocks′ masks′ : List ℕ) → e .kind ≡ 0 → a ≡ 0 → view r′ ≡ counting (e .process) (view r) → more ≡ 1 → many ≡ 0
+    pub internal-moved : (r′ : Record) (more many a : ℕ) (clocks′ masks′ : List ℕ) → e .kind ≡ 0 → a ≡ 0 → view r′ ≡ counting (e .process) (view r) → Whole (r′ .clock) (r′ .updated) (r′ .sent) → more ≡ 1 → many ≡ 0
         → clocks′ ≡ sets clocks (n * k) (upto (part (r′ .clock)) n) → masks′ ≡ set masks k 0
         → Moved n l i k v r r′ more many number channel order place sent received head next clocks masks vals answers clocks′ masks′ vals (set answers i a)
     unfolding no-stamp
-    internal-moved r′ more many a clocks′ masks′ h nil er one none′ ec em =
+    internal-moved r′ more many a clocks′ masks′ h nil er whole one none′ ec em =
         moved r′ more many a no-stamp number channel order place sent received head next clocks′ masks′ vals one nil
         (er ∙ ap (counting (e .process)) view-is ∙ sym (ap (λ (w : Records). w .running (e .process)) (recorded-internal x e h) ∙ at-same (x .running) (e .process) _))
+        whole
         (stamp-other x e (λ q. omega arith))
         none′ (omega arith) (ready .long) (chained-same (ready .chained))
         (rw (accepted-internal s e h, recorded-internal x e h) (ledger-internal s x ts number channel order place sent received (ready .ledger) no-stamp _ _))
@@ -212,7 +215,7 @@ module _ (n : ℕ) (l : List ℕ) (i k v : ℕ) (r : Record) (number channel ord
           ∙ sym (ap (λ (t : Stamp). t .values) (stamp-send x e h))
 
       pub send-moved : (r′ : Record) (more many a : ℕ) (number′ channel′ order′ place′ sent′ head′ next′ clocks′ masks′ vals′ : List ℕ)
-          → a ≡ 0 → view r′ ≡ sending (e .process) (e .peer) (counting (e .process) (view r)) → more ≡ 1
+          → a ≡ 0 → view r′ ≡ sending (e .process) (e .peer) (counting (e .process) (view r)) → Whole (r′ .clock) (r′ .updated) (r′ .sent) → more ≡ 1
           → many ≡ count (news (counting (e .process) (view r)) (e .peer)) n
           → clocks′ ≡ sets clocks (n * k) (upto (part (r′ .clock)) n)
           → masks′ ≡ set masks k (mask (news (counting (e .process) (view r)) (e .peer)) n)
@@ -222,11 +225,12 @@ module _ (n : ℕ) (l : List ℕ) (i k v : ℕ) (r : Record) (number channel ord
           → sent′ ≡ set sent (channel-of (e .process) (e .peer)) (getD sent (channel-of (e .process) (e .peer)) 0 + 1)
           → head′ ≡ set head (e .message % 1024) (k + 1) → next′ ≡ set next k (getD head (e .message % 1024) 0)
           → Moved n l i k v r r′ more many number′ channel′ order′ place′ sent′ received head′ next′ clocks masks vals answers clocks′ masks′ vals′ (set answers i a)
-      send-moved r′ more many a number′ channel′ order′ place′ sent′ head′ next′ clocks′ masks′ vals′ nil er one em ec ek ev e1 e2 e3 e4 e5 e6 e7 =
+      send-moved r′ more many a number′ channel′ order′ place′ sent′ head′ next′ clocks′ masks′ vals′ nil er whole one em ec ek ev e1 e2 e3 e4 e5 e6 e7 =
           let em′ : many ≡ count (news mine (e .peer)) n = rw view-is at em in
           moved r′ more many a (record-stamp x e) number′ channel′ order′ place′ sent′ received head′ next′ clocks′ masks′ vals′ one nil
           (er ∙ ap (λ (w : Running). sending (e .process) (e .peer) (counting (e .process) w)) view-is
           ∙ sym (ap (λ (w : Records). w .running (e .process)) (recorded-send x e h) ∙ at-same (x .running) (e .process) _))
+          whole
           refl
           (em′ ∙ sym (length-values (news mine (e .peer)) (mine .clock) n) ∙ ap length values-is)
           (omega (arith, em′, count-le (news mine (e .peer)) n))
@@ -313,16 +317,17 @@ module _ (n : ℕ) (l : List ℕ) (i k v : ℕ) (r : Record) (number channel ord
           ∙ ap told (sym (in-front-now n (ready .few) s x last e inv yea h .stamp)))
 
       pub receive-moved : (r′ : Record) (more many a : ℕ) (received′ clocks′ masks′ : List ℕ)
-          → a ≡ 0 → view r′ ≡ receiving (e .process) (unpacked (getD masks at 0) vals (getD place at 0)) (counting (e .process) (view r)) → more ≡ 1 → many ≡ 0
+          → a ≡ 0 → view r′ ≡ receiving (e .process) (unpacked (getD masks at 0) vals (getD place at 0)) (counting (e .process) (view r)) → Whole (r′ .clock) (r′ .updated) (r′ .sent) → more ≡ 1 → many ≡ 0
           → clocks′ ≡ sets clocks (n * k) (upto (part (r′ .clock)) n) → masks′ ≡ set masks k 0
           → received′ ≡ set received c₁ (getD received c₁ 0 + 1)
           → Moved n l i k v r r′ more many number channel order place sent received′ head next clocks masks vals answers clocks′ masks′ vals (set answers i a)
       unfolding no-stamp
-      receive-moved r′ more many a received′ clocks′ masks′ nil er one none′ ec ek e1 =
+      receive-moved r′ more many a received′ clocks′ masks′ nil er whole one none′ ec ek e1 =
           moved r′ more many a no-stamp number channel order place sent received′ head next clocks′ masks′ vals one nil
           (er ∙ ap (λ (w : Running). receiving (e .process) (unpacked (getD masks at 0) vals (getD place at 0)) (counting (e .process) w)) view-is
           ∙ ap (λ (w : Clock). receiving (e .process) w (counting (e .process) (x .running (e .process)))) told-is
           ∙ sym (ap (λ (w : Records). w .running (e .process)) (recorded-receive x e h) ∙ at-same (x .running) (e .process) _))
+          whole
           (stamp-other x e (λ q. omega arith))
           none′ (omega arith)
           (rw e1

@@ -1,14 +1,17 @@
 -- A walk of a stamp's mask from one set bit to the next: what holds between two turns, and how a turn keeps it.
-use Prim.Native.Nat.{ℕ, _+_, _≤_, _<_}
+use Prim.Native.Nat.{ℕ, _+_, _-_, _*_, _/_, _^_, _≤_, _<_}
 use mathlib.Core.Bool.{true, false}
 use mathlib.Core.List.{List}
 use mathlib.Core.Path.{_≡_, refl, sym, _∙_}
 use native.Mathlib.Numerals.{add-one}
+use native.Mathlib.Nat.{div-one}
 use native.Mathlib.Omega.{arith}
 use borrow.Author.Tests.{lt-ltb}
+use lib.Bits.{bitAnd}
+use lib.Count.{trailingZeros}
 use lib.ListN.{getD, set}
 use Rattle.paper.specs.Stamp.{count, bit, told-at}
-use Rattle.course.proofs.Bits.{count-skip}
+use Rattle.course.proofs.Bits.{count-skip, Ahead, next, no-more}
 use Rattle.course.proofs.Over.{over, larger, regrown, over-skip, over-above, told-none, larger-none, regrown-none, over-store, over-keep}
 
 -- m₀ is the mask, whose values stand in vs from a on; v₀ and u₀ are the clock and the last updates at the start. Below k all is done.
@@ -71,3 +74,38 @@ module _ (own m₀ : ℕ) (vs : List ℕ) (a : ℕ) (v₀ u₀ : List ℕ) where
           clock = over-keep _ v₀ v k (w .clock) (omega (arith, value, stood));
           updated = over-keep _ u₀ u k (w .updated) (regrown-none own v₀ (told-at m₀ vs a) u₀ k (omega (arith, value, stood)));
         }
+
+-- Between two turns: the bits of the mask below some k are done, and the rest of the mask has the others.
+pub record Left (own m₀ : ℕ) (vs : List ℕ) (a : ℕ) (v₀ u₀ : List ℕ) (rest i : ℕ) (v u : List ℕ) : Type 0 where
+  pub done : ℕ
+  pub rest-is : rest ≡ m₀ / 2 ^ done * 2 ^ done
+  pub walked : Walked own m₀ vs a v₀ u₀ done i v u
+
+module _ (own m₀ : ℕ) (vs : List ℕ) (a : ℕ) (v₀ u₀ : List ℕ) where
+  pub left-start : Left own m₀ vs a v₀ u₀ m₀ a v₀ u₀
+  left-start = record { done = 0; rest-is = rw div-one (omega arith); walked = walk-start own m₀ vs a v₀ u₀ }
+
+  module _ (rest i : ℕ) (v u : List ℕ) (l : Left own m₀ vs a v₀ u₀ rest i v u) (word : m₀ < 2 ^ 32) where
+    -- at the lowest bit of the rest, with its value x
+    module _ (some : rest ≡ 0 → ⊥) (x : ℕ) (e : x ≡ getD vs i 0) where
+      abbrev t : ℕ
+      t = trailingZeros 32 rest
+
+      here : Ahead m₀ (l .done) rest t
+      here = next m₀ (l .done) rest word (l .rest-is) some
+
+      there : Walked own m₀ vs a v₀ u₀ t i v u
+      there =
+          walk-skip own m₀ vs a v₀ u₀ (l .done) t i v u (here .ahead) (omega (arith, here .inside)) (here .between) (l .walked)
+
+      pub left-grew : getD v t 0 < x → Left own m₀ vs a v₀ u₀ (bitAnd rest (rest - 1)) (i + 1) (set v t x) (set u t own)
+      left-grew h =
+          record { done = t + 1; rest-is = here .left; walked = walk-grew own m₀ vs a v₀ u₀ t i x v u there (here .inside) (here .here) e h }
+
+      pub left-kept : x ≤ getD v t 0 → Left own m₀ vs a v₀ u₀ (bitAnd rest (rest - 1)) (i + 1) v u
+      left-kept h =
+          record { done = t + 1; rest-is = here .left; walked = walk-kept own m₀ vs a v₀ u₀ t i x v u there (here .inside) (here .here) e h }
+
+    pub left-end : rest ≡ 0 → Walked own m₀ vs a v₀ u₀ 32 i v u
+    left-end z =
+        walk-skip own m₀ vs a v₀ u₀ (l .done) 32 i v u (l .walked .inside) (omega arith) (λ s p q. no-more m₀ (l .done) (sym (l .rest-is) ∙ z) s p) (l .walked)

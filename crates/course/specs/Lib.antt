@@ -1,5 +1,4 @@
 pub mod View
-pub mod Walk
 pub mod Tables
 pub mod Ledger
 pub mod Turn

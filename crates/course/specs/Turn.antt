@@ -11,7 +11,7 @@ use Rattle.paper.specs.Machine.{State, start, answer, run, clocked}
 use Rattle.paper.specs.Running.{Records, fresh-records, records, record-stamps}
 use Rattle.paper.specs.Stamp.{Stamp}
 use Rattle.course.specs.Ledger.{Ledger, Chained, Long, Kept}
-use Rattle.course.specs.View.{view}
+use Rattle.course.specs.View.{view, Whole}
 use Rattle.course.specs.declared.record.Record.{Record}
 
 -- After the first i offers of the list l.
@@ -45,6 +45,7 @@ pub record Ready (n : ℕ) (l : List ℕ) (i k v : ℕ) (r : Record) (number cha
   pub chained : Chained number head next k
   pub ledger : Ledger (state-at n l i) (records-at n l i) (stamps-at n l i) number channel order place sent received
   pub kept : Kept (stamps-at n l i) masks values
+  pub whole : Whole (r .clock) (r .updated) (r .sent)
   pub mine : process-at l i < 32 → view r ≡ records-at n l i .running (process-at l i)
 
 -- After it: k and v were the numbers of accepted events and of carried values, and `more` and `many` are added to them.
@@ -57,6 +58,7 @@ pub record Moved (n : ℕ) (l : List ℕ) (i k v : ℕ) (r r′ : Record) (more 
   pub chained : Chained number head next (k + more)
   pub ledger : Ledger (run n (state-at n l i) (event-at l (8 * i) ∷ [])) (records n (state-at n l i) (records-at n l i) (event-at l (8 * i) ∷ []))
       (stamps-at n l i ++ record-stamps n (state-at n l i) (records-at n l i) (event-at l (8 * i) ∷ [])) number channel order place sent received
+  pub whole : Whole (r′ .clock) (r′ .updated) (r′ .sent)
   pub mine : (q : ℕ) → (process-at l i < 32 → q ≡ process-at l i) → view r ≡ records-at n l i .running q
       → view r′ ≡ records n (state-at n l i) (records-at n l i) (event-at l (8 * i) ∷ []) .running q
   pub clock : clocks ≡ sets clocks₀ (n * k) (clock-slots n (clocked n (state-at n l i) (event-at l (8 * i) ∷ [])))

@@ -3,7 +3,8 @@ use Prim.Native.Nat.{ℕ}
 use mathlib.Core.Bool.{Bool}
 use mathlib.Core.List.{List}
 use lib.Dec.{ltb}
-use lib.ListN.{getD}
+use mathlib.Core.Path.{_≡_}
+use lib.ListN.{length, getD}
 use Rattle.paper.specs.Clock.{part}
 use Rattle.paper.specs.Event.{Event}
 use Rattle.paper.specs.Running.{Running}
@@ -29,6 +30,15 @@ viewing v u s = record { clock = v; last-update = λ k. getD u k 0; last-sent = 
 abbrev pub view : Record → Running
 view r = viewing (r .clock) (r .updated) (r .sent)
 
+abbrev pub as-record : List ℕ → List ℕ → List ℕ → Record
+as-record v u s = record { clock = v; updated = u; sent = s }
+
 -- Whether component k grew after the own number s.
 abbrev pub newer : List ℕ → ℕ → ℕ → Bool
 newer updated s k = ltb s (part updated k)
+
+-- Each of a record's three arrays has a number for every process.
+pub record Whole (v u s : List ℕ) : Type 0 where
+  pub clock : length v ≡ 32
+  pub updated : length u ≡ 32
+  pub sent : length s ≡ 32

@@ -1,25 +1,24 @@
 // The course of offers: each is judged in list order, and where it is accepted, its process's record, the tables and the lent slots move on.
 ghost use mathlib.Core.Path.{_≡_};
+ghost use mathlib.Core.List.{List};
 ghost use mathlib.Core.Bool.{cond, _&&_};
-ghost use Prim.Native.Nat.{_+_, _*_, _≤_, _<_};
+ghost use Prim.Native.Nat.{ℕ, _+_, _*_, _≤_, _<_};
 ghost use lib.Dec.{eqb};
 ghost use lib.ListN.{length, getD, set};
 ghost use lib.Seq.{sets};
 ghost use Rattle.paper.specs.Clock.{part};
 ghost use Rattle.paper.specs.Stamp.{mask, count, values, unpacked, upto};
 ghost use Rattle.paper.specs.Running.{counting, sending, receiving, news};
-ghost use Rattle.course.specs.View.{view};
+ghost use Rattle.course.specs.View.{viewing, as-record, Whole};
 ghost use Rattle.course.specs.Tables.{channel-of};
 ghost use Rattle.course.specs.Turn.{Ready, Moved};
 ghost use Rattle.course.specs.Course.{Lent, Ran};
 use super::channel::channel_number;
 use super::event::index;
-use super::record::Record;
 use clock::Message;
 use clock::Process;
 
 pub struct Step {
-    pub record: Record,
     pub accepted: usize,
     pub carried: usize,
 }
@@ -27,22 +26,23 @@ pub struct Step {
 fn internal(
     p: Process,
     n: usize,
-    r: Record,
+    clock: &mut [u16; 32],
+    updated: &mut [u16; 32],
     k: usize,
     clocks: &mut [u16],
     masks: &mut [u32],
 ) -> Step
-    requires { ⌜ (p .0 < 32) × (part (r .clock) (p .0) < 512) × (n * k + n ≤ length (now clocks)) × (n ≤ 32) × (k < length (now masks)) ⌝ }
-    ensures { λ s. ⌜ (view (s .«record») ≡ counting (p .0) (view r)) × (s .accepted ≡ 1) × (s .carried ≡ 0)
-        × (now (clocks .exit) ≡ sets (now (clocks .entry)) (n * k) (upto (part (s .«record» .clock)) n))
+    requires { ⌜ (p .0 < 32) × (part (now clock) (p .0) < 512) × (n * k + n ≤ length (now clocks)) × (n ≤ 32) × (k < length (now masks))
+        × (length (now clock) ≡ 32) × (length (now updated) ≡ 32) ⌝ }
+    ensures { λ s. ⌜ ((sent : List ℕ) → viewing (now (clock .exit)) (now (updated .exit)) sent ≡ counting (p .0) (viewing (now (clock .entry)) (now (updated .entry)) sent))
+        × (length (now (clock .exit)) ≡ 32) × (length (now (updated .exit)) ≡ 32) × (s .accepted ≡ 1) × (s .carried ≡ 0)
+        × (now (clocks .exit) ≡ sets (now (clocks .entry)) (n * k) (upto (part (now (clock .exit))) n))
         × (now (masks .exit) ≡ set (now (masks .entry)) k 0) ⌝ }
 {
-    let c = r.counted(p);
-    let clock = c.clock;
+    super::record::count(p, clock, updated);
     masks[k] = 0;
     super::record::lay(clock, n, clocks, n * k);
     Step {
-        record: c,
         accepted: 1,
         carried: 0,
     }
@@ -78,7 +78,9 @@ fn send(
     q: Process,
     x: Message,
     n: usize,
-    r: Record,
+    clock: &mut [u16; 32],
+    updated: &mut [u16; 32],
+    last_sent: &mut [u16; 32],
     k: usize,
     v: usize,
     number: &mut [u16; 512],
@@ -90,28 +92,28 @@ fn send(
     masks: &mut [u32],
     out: &mut [u16],
 ) -> Step
-    requires { ⌜ (p .0 < 32) × (q .0 < 32) × (part (r .clock) (p .0) < 512) × (n * k + n ≤ length (now clocks)) × (n ≤ 32) × (k < 512) × (v < 65536) × (k < length (now masks)) × (v + n ≤ length (now out))
-        × (getD (now sent) (channel-of (p .0) (q .0)) 0 < 512) ⌝ }
-    ensures { λ s. ⌜ (view (s .«record») ≡ sending (p .0) (q .0) (counting (p .0) (view r))) × (s .accepted ≡ 1)
-        × (s .carried ≡ count (news (counting (p .0) (view r)) (q .0)) n)
-        × (now (clocks .exit) ≡ sets (now (clocks .entry)) (n * k) (upto (part (s .«record» .clock)) n))
-        × (now (masks .exit) ≡ set (now (masks .entry)) k (mask (news (counting (p .0) (view r)) (q .0)) n))
-        × (now (out .exit) ≡ sets (now (out .entry)) v (values (news (counting (p .0) (view r)) (q .0)) (counting (p .0) (view r) .clock) n)) ⌝ }
+    requires { ⌜ (p .0 < 32) × (q .0 < 32) × (part (now clock) (p .0) < 512) × (n * k + n ≤ length (now clocks)) × (n ≤ 32) × (k < 512) × (v < 65536) × (k < length (now masks)) × (v + n ≤ length (now out))
+        × (getD (now sent) (channel-of (p .0) (q .0)) 0 < 512) × Whole (now clock) (now updated) (now «last_sent») ⌝ }
+    ensures { λ s. ⌜ (viewing (now (clock .exit)) (now (updated .exit)) (now («last_sent» .exit))
+        ≡ sending (p .0) (q .0) (counting (p .0) (viewing (now (clock .entry)) (now (updated .entry)) (now («last_sent» .entry)))))
+        × Whole (now (clock .exit)) (now (updated .exit)) (now («last_sent» .exit)) × (s .accepted ≡ 1)
+        × (s .carried ≡ count (news (counting (p .0) (viewing (now (clock .entry)) (now (updated .entry)) (now («last_sent» .entry)))) (q .0)) n)
+        × (now (clocks .exit) ≡ sets (now (clocks .entry)) (n * k) (upto (part (now (clock .exit))) n))
+        × (now (masks .exit) ≡ set (now (masks .entry)) k (mask (news (counting (p .0) (viewing (now (clock .entry)) (now (updated .entry)) (now («last_sent» .entry)))) (q .0)) n))
+        × (now (out .exit) ≡ sets (now (out .entry)) v (values (news (counting (p .0) (viewing (now (clock .entry)) (now (updated .entry)) (now («last_sent» .entry)))) (q .0))
+        (counting (p .0) (viewing (now (clock .entry)) (now (updated .entry)) (now («last_sent» .entry))) .clock) n)) ⌝ }
     ensures { λ _. ⌜ (now (number .exit) ≡ set (now (number .entry)) k (x .0)) × (now (channel .exit) ≡ set (now (channel .entry)) k (channel-of (p .0) (q .0)))
         × (now (order .exit) ≡ set (now (order .entry)) k (getD (now (sent .entry)) (channel-of (p .0) (q .0)) 0)) × (now (place .exit) ≡ set (now (place .entry)) k v)
         × (now (sent .exit) ≡ set (now (sent .entry)) (channel-of (p .0) (q .0)) (getD (now (sent .entry)) (channel-of (p .0) (q .0)) 0 + 1)) ⌝ }
 {
     let ch = channel_number(p, q);
-    let c = r.cut(p, q, n, out, v);
-    masks[k] = c.mask;
+    let mask = super::record::cut(p, q, n, clock, updated, last_sent, out, v);
+    masks[k] = mask;
     note(x, ch, k, v, number, channel, order, place, sent);
-    let after = c.record;
-    let clock = after.clock;
     super::record::lay(clock, n, clocks, n * k);
     Step {
-        record: after,
         accepted: 1,
-        carried: c.count,
+        carried: u32::count_ones(mask) as usize,
     }
 }
 
@@ -120,7 +122,8 @@ fn receive(
     q: Process,
     at: usize,
     n: usize,
-    r: Record,
+    clock: &mut [u16; 32],
+    updated: &mut [u16; 32],
     k: usize,
     place: &[u16; 512],
     received: &mut [u16; 1024],
@@ -128,34 +131,36 @@ fn receive(
     masks: &mut [u32],
     values: &[u16],
 ) -> Step
-    requires { ⌜ (p .0 < 32) × (q .0 < 32) × (part (r .clock) (p .0) < 512) × (n * k + n ≤ length (now clocks)) × (n ≤ 32) × (at < 512) × (at < length (now masks)) × (getD (now place) at 0 ≤ length (now values))
-        × (getD (now received) (channel-of (q .0) (p .0)) 0 < 512) × (k < length (now masks)) ⌝ }
-    ensures { λ s. ⌜ (view (s .«record») ≡ receiving (p .0) (unpacked (getD (now (masks .entry)) at 0) (now (values .entry)) (getD (now (place .entry)) at 0)) (counting (p .0) (view r)))
-        × (s .accepted ≡ 1) × (s .carried ≡ 0)
-        × (now (clocks .exit) ≡ sets (now (clocks .entry)) (n * k) (upto (part (s .«record» .clock)) n))
+    requires { ⌜ (p .0 < 32) × (q .0 < 32) × (part (now clock) (p .0) < 512) × (n * k + n ≤ length (now clocks)) × (n ≤ 32) × (at < 512) × (at < length (now masks)) × (getD (now place) at 0 ≤ length (now values))
+        × (getD (now received) (channel-of (q .0) (p .0)) 0 < 512) × (k < length (now masks))
+        × (length (now clock) ≡ 32) × (length (now updated) ≡ 32) ⌝ }
+    ensures { λ s. ⌜ ((sent : List ℕ) → viewing (now (clock .exit)) (now (updated .exit)) sent
+        ≡ receiving (p .0) (unpacked (getD (now (masks .entry)) at 0) (now (values .entry)) (getD (now (place .entry)) at 0)) (counting (p .0) (viewing (now (clock .entry)) (now (updated .entry)) sent)))
+        × (length (now (clock .exit)) ≡ 32) × (length (now (updated .exit)) ≡ 32) × (s .accepted ≡ 1) × (s .carried ≡ 0)
+        × (now (clocks .exit) ≡ sets (now (clocks .entry)) (n * k) (upto (part (now (clock .exit))) n))
         × (now (masks .exit) ≡ set (now (masks .entry)) k 0)
         × (now (received .exit) ≡ set (now (received .entry)) (channel-of (q .0) (p .0)) (getD (now (received .entry)) (channel-of (q .0) (p .0)) 0 + 1)) ⌝ }
 {
     let ch = channel_number(q, p);
     let a = index(place[at]);
-    let c = r.take(p, masks[at], values, a);
-    let clock = c.clock;
+    super::record::take(p, masks[at], clock, updated, values, a);
     received[ch] = received[ch] + 1;
     masks[k] = 0;
     super::record::lay(clock, n, clocks, n * k);
     Step {
-        record: c,
         accepted: 1,
         carried: 0,
     }
 }
 
-// Offer i, where k events are accepted and v values are carried so far, and r is the record of its process.
+// Offer i, where k events are accepted and v values are carried so far, and the first three arrays are the record of its process.
 pub(crate) fn offered(
     n: usize,
     list: &[u8],
     i: usize,
-    r: Record,
+    clock: &mut [u16; 32],
+    updated: &mut [u16; 32],
+    last_sent: &mut [u16; 32],
     k: usize,
     v: usize,
     number: &mut [u16; 512],
@@ -171,8 +176,8 @@ pub(crate) fn offered(
     values: &mut [u16],
     answers: &mut [u8],
 ) -> Step
-    requires { ⌜ Ready n (now list) i k v r (now number) (now channel) (now order) (now place) (now sent) (now received) (now head) (now next) (now clocks) (now masks) (now values) (now answers) ⌝ }
-    ensures { λ s. ⌜ Moved n (now (list .entry)) i k v r (s .«record») (s .accepted) (s .carried) (now (number .exit)) (now (channel .exit)) (now (order .exit)) (now (place .exit)) (now (sent .exit)) (now (received .exit)) (now (head .exit)) (now (next .exit))
+    requires { ⌜ Ready n (now list) i k v (as-record (now clock) (now updated) (now «last_sent»)) (now number) (now channel) (now order) (now place) (now sent) (now received) (now head) (now next) (now clocks) (now masks) (now values) (now answers) ⌝ }
+    ensures { λ s. ⌜ Moved n (now (list .entry)) i k v (as-record (now (clock .entry)) (now (updated .entry)) (now («last_sent» .entry))) (as-record (now (clock .exit)) (now (updated .exit)) (now («last_sent» .exit))) (s .accepted) (s .carried) (now (number .exit)) (now (channel .exit)) (now (order .exit)) (now (place .exit)) (now (sent .exit)) (now (received .exit)) (now (head .exit)) (now (next .exit))
         (now (clocks .entry)) (now (masks .entry)) (now (values .entry)) (now (answers .entry)) (now (clocks .exit)) (now (masks .exit)) (now (values .exit)) (now (answers .exit)) ⌝ }
 {
     let e = super::event::read(list, i);
@@ -181,7 +186,6 @@ pub(crate) fn offered(
     answers[i] = a;
     if a != 0 {
         return Step {
-            record: r,
             accepted: 0,
             carried: 0,
         };
@@ -193,7 +197,9 @@ pub(crate) fn offered(
             e.peer,
             e.message,
             n,
-            r,
+            clock,
+            updated,
+            last_sent,
             k,
             v,
             number,
@@ -212,7 +218,8 @@ pub(crate) fn offered(
             e.peer,
             at,
             n,
-            r,
+            clock,
+            updated,
             k,
             place,
             received,
@@ -221,7 +228,7 @@ pub(crate) fn offered(
             values,
         );
     }
-    internal(e.process, n, r, k, clocks, masks)
+    internal(e.process, n, clock, updated, k, clocks, masks)
 }
 
 // How many offers were tried, how many of them are accepted, and how many values these carry.
@@ -257,11 +264,9 @@ pub(crate) fn course(
     ensures { λ r. ⌜ Ran strict n m (now (list .entry)) (now (clocks .entry)) (now (masks .entry)) (now (values .entry)) (now (answers .entry))
         (now (clocks .exit)) (now (masks .exit)) (now (values .exit)) (now (answers .exit)) (r .tried) (r .accepted) (r .carried) ⌝ }
 {
-    let mut records = [Record {
-        clock: [0u16; 32],
-        updated: [0u16; 32],
-        sent: [0u16; 32],
-    }; 32];
+    let mut clock = [[0u16; 32]; 32];
+    let mut updated = [[0u16; 32]; 32];
+    let mut last_sent = [[0u16; 32]; 32];
     let mut number = [0u16; 512];
     let mut channel = [0u16; 512];
     let mut order = [0u16; 512];
@@ -276,12 +281,13 @@ pub(crate) fn course(
     let mut i: usize = 0;
     while i < end {
         let p = super::event::slot(list, i);
-        let r = records[p];
         let s = offered(
             n,
             list,
             i,
-            r,
+            &mut clock[p],
+            &mut updated[p],
+            &mut last_sent[p],
             k,
             v,
             &mut number,
@@ -297,8 +303,6 @@ pub(crate) fn course(
             values,
             answers,
         );
-        let after = s.record;
-        records[p] = after;
         k = k + s.accepted;
         v = v + s.carried;
         end = end_after(strict, s.accepted, i, end);

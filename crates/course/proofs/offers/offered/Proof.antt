@@ -1,7 +1,7 @@
 use mathlib.Core.Path.{_≡_, refl, sym, _∙_}
 use native.Mathlib.Omega.{arith}
 use Rattle.paper.specs.Machine.{answer}
-use Rattle.course.specs.View.{event}
+use Rattle.course.specs.View.{event, as-record}
 use Rattle.course.specs.Turn.{state-at}
 use Rattle.course.proofs.OneOffer.{answered, few-stamps, v-small, sent-few, p-small, q-small, own-small, fit, refused-moved, internal-moved, send-moved, at-in, place-in, received-few, receive-moved}
 use borrow.Author.Needs.{needs}
@@ -31,9 +31,9 @@ link-requires c κs = let p = c .before .before .before .before .before .before 
 
 send-requires : tie.Need-send-requires
 send-requires c κs =
-    let p = c .before .before .before .before .before .before .before .before .before .before .before .before .before .before .before .before .before .before .before .before .before .before .before .before .before .before .before .before .pre in
-    let is = sym (c .before .before .before .before .before .before .before .before .before .before .before .before .before .before .before .before .before .before .before .before .before .before .read .ensures) in
-    let y = yea (c .before .before .before .before .before .before .before .before .before .before .before .before .before) in (
+    let p = c .before .before .before .before .before .before .before .before .before .before .before .before .before .before .before .before .before .before .before .before .before .before .before .before .before .before .before .before .before .before .before .pre in
+    let is = sym (c .before .before .before .before .before .before .before .before .before .before .before .before .before .before .before .before .before .before .before .before .before .before .before .before .before .read .ensures) in
+    let y = yea (c .before .before .before .before .before .before .before .before .before .before .before .before .before .before .before .before) in (
       p-small _ _ _ _ _ _ _ _ _ _ _ _ _ _ _ _ _ _ p _ is y,
       q-small _ _ _ _ _ _ _ _ _ _ _ _ _ _ _ _ _ _ p _ is y (λ q. omega arith),
       own-small _ _ _ _ _ _ _ _ _ _ _ _ _ _ _ _ _ _ p _ is y,
@@ -44,23 +44,25 @@ send-requires c κs =
       p .mask-room,
       p .value-room,
       sent-few _ _ _ _ _ _ _ _ _ _ _ _ _ _ _ _ _ _ p _ refl _,
+      p .whole,
     )
 
 returns-2 : tie.Need-returns-2
 returns-2 c =
     let n = c .before .before .before .before .before .before .send .ensures in
-    let w = c .before .before .before .before .before .before .before .before .before .before .before .before .before .before .before .link .ensures in
-    send-moved _ _ _ _ _ _ _ _ _ _ _ _ _ _ _ _ _ _ (c .before .before .before .before .before .before .before .before .before .before .before .before .before .before .before .before .before .before .before .before .before .before .before .before .before .before .before .before .before .before .before .before .before .before .before .pre) _ (sym (c .before .before .before .before .before .before .before .before .before .before .before .before .before .before .before .before .before .before .before .before .before .before .before .before .before .before .before .before .before .read .ensures)) (yea (c .before .before .before .before .before .before .before .before .before .before .before .before .before .before .before .before .before .before .before .before)) (c .before .before .before .before .before .before .before .before .before .before .before .before .before .before .before .before .before .before .if2 .taken)
-    _ _ _ _ _ _ _ _ _ _ _ _ _ _ (c .before .before .before .before .before .before .before .before .before .before .before .before .before .before .before .before .before .before .before .before .if1 .left)
-    (n .0 .0) (n .0 .1) (n .0 .2) (n .0 .3) (n .0 .4) (n .0 .5) (n .1 .0) (n .1 .1) (n .1 .2) (n .1 .3) (n .1 .4) (w .0) (w .1)
+    let w = c .before .before .before .before .before .before .before .before .before .before .before .before .before .before .before .before .before .before .link .ensures in
+    let t = c .before .before .before .before .before .before .send .last .1 .1 .1 .1 in
+    send-moved _ _ _ _ _ _ _ _ _ _ _ _ _ _ _ _ _ _ (c .before .before .before .before .before .before .before .before .before .before .before .before .before .before .before .before .before .before .before .before .before .before .before .before .before .before .before .before .before .before .before .before .before .before .before .before .before .before .pre) _ (sym (c .before .before .before .before .before .before .before .before .before .before .before .before .before .before .before .before .before .before .before .before .before .before .before .before .before .before .before .before .before .before .before .before .read .ensures)) (yea (c .before .before .before .before .before .before .before .before .before .before .before .before .before .before .before .before .before .before .before .before .before .before .before)) (c .before .before .before .before .before .before .before .before .before .before .before .before .before .before .before .before .before .before .before .before .before .if2 .taken)
+    (as-record (t .0) (t .1 .0) (t .1 .1 .0)) _ _ _ _ _ _ _ _ _ _ _ _ _ (c .before .before .before .before .before .before .before .before .before .before .before .before .before .before .before .before .before .before .before .before .before .before .before .if1 .left)
+    (n .0 .0) (n .0 .1) (n .0 .2) (n .0 .3) (n .0 .4) (n .0 .5) (n .0 .6) (n .1 .0) (n .1 .1) (n .1 .2) (n .1 .3) (n .1 .4) (w .0) (w .1)
 
 receive-requires : tie.Need-receive-requires
 receive-requires c κs =
-    let p = c .before .before .before .before .before .before .before .before .before .before .before .before .before .before .before .before .before .before .before .before .before .before .before .before .pre in
-    let is = sym (c .before .before .before .before .before .before .before .before .before .before .before .before .before .before .before .before .before .before .read .ensures) in
-    let y = yea (c .before .before .before .before .before .before .before .before .before) in
-    let h = c .before .before .before .before .before .if3 .taken in
-    let f = c .before .before .before .before .before .before .before .before .before .before .before .before .before .before .find .ensures in
+    let p = c .before .before .before .before .before .before .before .before .before .before .before .before .before .before .before .before .before .before .before .before .before .before .before .before .before .before .pre in
+    let is = sym (c .before .before .before .before .before .before .before .before .before .before .before .before .before .before .before .before .before .before .before .before .read .ensures) in
+    let y = yea (c .before .before .before .before .before .before .before .before .before .before .before) in
+    let h = c .before .before .before .before .before .before .before .if3 .taken in
+    let f = c .before .before .before .before .before .before .before .before .before .before .before .before .before .before .before .before .find .ensures in
     let a = at-in _ _ _ _ _ _ _ _ _ _ _ _ _ _ _ _ _ _ p _ is y h _ f in
     let k = few-stamps _ _ _ _ _ _ _ _ _ _ _ _ _ _ _ _ _ _ p _ refl in (
       p-small _ _ _ _ _ _ _ _ _ _ _ _ _ _ _ _ _ _ p _ is y,
@@ -73,34 +75,44 @@ receive-requires c κs =
       place-in _ _ _ _ _ _ _ _ _ _ _ _ _ _ _ _ _ _ p _ is y h _ f,
       received-few _ _ _ _ _ _ _ _ _ _ _ _ _ _ _ _ _ _ p _ is y h _ f,
       p .mask-room,
+      p .whole .clock,
+      p .whole .updated,
     )
 
 returns-3 : tie.Need-returns-3
 returns-3 c =
     let n = c .before .before .before .before .receive .ensures in
-    receive-moved _ _ _ _ _ _ _ _ _ _ _ _ _ _ _ _ _ _ (c .before .before .before .before .before .before .before .before .before .before .before .before .before .before .before .before .before .before .before .before .before .before .before .before .before .before .before .before .before .pre) _ (sym (c .before .before .before .before .before .before .before .before .before .before .before .before .before .before .before .before .before .before .before .before .before .before .before .read .ensures)) (yea (c .before .before .before .before .before .before .before .before .before .before .before .before .before .before)) (c .before .before .before .before .before .before .before .before .before .before .if3 .taken) _ (c .before .before .before .before .before .before .before .before .before .before .before .before .before .before .before .before .before .before .before .find .ensures)
-    _ _ _ _ _ _ _ (c .before .before .before .before .before .before .before .before .before .before .before .before .before .before .if1 .left) (n .0) (n .1) (n .2) (n .3) (n .4) (n .5)
+    let t = c .before .before .before .before .receive .last .1 .1 .1 .1 in
+    let p = c .before .before .before .before .before .before .before .before .before .before .before .before .before .before .before .before .before .before .before .before .before .before .before .before .before .before .before .before .before .before .before .pre in
+    let s = c .before .before .before .before .before .before .before .before .before .before .before .before .before .before .before .before .before .before .before .before .before .before .before .before .before .before .before .before .before .before .before .args .last-sent .now in
+    receive-moved _ _ _ _ _ _ _ _ _ _ _ _ _ _ _ _ _ _ p _ (sym (c .before .before .before .before .before .before .before .before .before .before .before .before .before .before .before .before .before .before .before .before .before .before .before .before .before .read .ensures)) (yea (c .before .before .before .before .before .before .before .before .before .before .before .before .before .before .before .before)) (c .before .before .before .before .before .before .before .before .before .before .before .before .if3 .taken) _ (c .before .before .before .before .before .before .before .before .before .before .before .before .before .before .before .before .before .before .before .before .before .find .ensures)
+    (as-record (t .0) (t .1 .0) s) _ _ _ _ _ _ (c .before .before .before .before .before .before .before .before .before .before .before .before .before .before .before .before .if1 .left) (n .0 s) (record { clock = n .1; updated = n .2; sent = p .whole .sent }) (n .3) (n .4) (n .5) (n .6) (n .7)
 
 internal-requires : tie.Need-internal-requires
 internal-requires c κs =
-    let p = c .before .before .before .before .before .before .before .before .before .before .before .before .before .before .before .before .before .before .before .before .before .pre in
-    let is = sym (c .before .before .before .before .before .before .before .before .before .before .before .before .before .before .before .read .ensures) in
-    let y = yea (c .before .before .before .before .before .before) in (
+    let p = c .before .before .before .before .before .before .before .before .before .before .before .before .before .before .before .before .before .before .before .before .before .before .before .pre in
+    let is = sym (c .before .before .before .before .before .before .before .before .before .before .before .before .before .before .before .before .before .read .ensures) in
+    let y = yea (c .before .before .before .before .before .before .before .before) in (
       p-small _ _ _ _ _ _ _ _ _ _ _ _ _ _ _ _ _ _ p _ is y,
       own-small _ _ _ _ _ _ _ _ _ _ _ _ _ _ _ _ _ _ p _ is y,
       p .clock-room,
       p .few,
       p .mask-room,
+      p .whole .clock,
+      p .whole .updated,
     )
 
 returns-4 : tie.Need-returns-4
 returns-4 c =
     let n = c .before .before .before .before .internal .ensures in
-    let is = sym (c .before .before .before .before .before .before .before .before .before .before .before .before .before .before .before .before .before .before .before .before .read .ensures) in
-    let y = yea (c .before .before .before .before .before .before .before .before .before .before .before) in
-    let f = fit _ _ _ _ _ _ _ _ _ _ _ _ _ _ _ _ _ _ (c .before .before .before .before .before .before .before .before .before .before .before .before .before .before .before .before .before .before .before .before .before .before .before .before .before .before .pre) _ is y in
-    internal-moved _ _ _ _ _ _ _ _ _ _ _ _ _ _ _ _ _ _ (c .before .before .before .before .before .before .before .before .before .before .before .before .before .before .before .before .before .before .before .before .before .before .before .before .before .before .pre) _ is y _ _ _ _ _ _
-    (omega (arith, f .kind, c .before .before .before .before .before .before .before .before .before .if2 .left, c .before .before .before .before .before .before .before .if3 .left)) (c .before .before .before .before .before .before .before .before .before .before .before .if1 .left) (n .0) (n .1) (n .2) (n .3) (n .4)
+    let t = c .before .before .before .before .internal .last .1 .1 in
+    let p = c .before .before .before .before .before .before .before .before .before .before .before .before .before .before .before .before .before .before .before .before .before .before .before .before .before .before .before .before .pre in
+    let s = c .before .before .before .before .before .before .before .before .before .before .before .before .before .before .before .before .before .before .before .before .before .before .before .before .before .before .before .before .args .last-sent .now in
+    let is = sym (c .before .before .before .before .before .before .before .before .before .before .before .before .before .before .before .before .before .before .before .before .before .before .read .ensures) in
+    let y = yea (c .before .before .before .before .before .before .before .before .before .before .before .before .before) in
+    let f = fit _ _ _ _ _ _ _ _ _ _ _ _ _ _ _ _ _ _ p _ is y in
+    internal-moved _ _ _ _ _ _ _ _ _ _ _ _ _ _ _ _ _ _ p _ is y (as-record (t .0) (t .1 .0) s) _ _ _ _ _
+    (omega (arith, f .kind, c .before .before .before .before .before .before .before .before .before .before .before .if2 .left, c .before .before .before .before .before .before .before .before .before .if3 .left)) (c .before .before .before .before .before .before .before .before .before .before .before .before .before .if1 .left) (n .0 s) (record { clock = n .1; updated = n .2; sent = p .whole .sent }) (n .3) (n .4) (n .5) (n .6)
 
 pub offered-spec : {M : Type 1} → statement M
 offered-spec =

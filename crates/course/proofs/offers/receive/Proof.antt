@@ -5,14 +5,14 @@ use Rattle.course.proofs.offers.receive.Statement.{statement}
 use Rattle.course.proofs.offers.receive.Tie as tie
 
 add-received : tie.Need-add-received
-add-received c = omega (arith, rw (← c .before .before .before .before .before .before .channel-number .ensures .0) at (c .before .before .before .before .before .before .before .before .before .before .pre .8))
+add-received c = omega (arith, rw (← c .before .before .before .before .before .before .before .channel-number .ensures .0) at (c .before .before .before .before .before .before .before .before .before .before .before .pre .8))
 
 returns : tie.Need-returns
 returns c =
     let t = c .before .before .before .before .before .before .take .ensures in
-    let ch = c .before .before .before .before .before .before .before .before .before .before .channel-number .ensures .0 in
-    let ix = c .before .before .before .before .before .before .before .before .index .ensures .0 in
-    (rw ix at t, refl, refl, c .before .before .lay .ensures, refl, rw (← ch) refl)
+    let ch = c .before .before .before .before .before .before .before .before .before .before .before .before .channel-number .ensures .0 in
+    let ix = c .before .before .before .before .before .before .before .before .before .before .index .ensures .0 in
+    (λ sent. rw ix at (t .0 sent), t .1, t .2, refl, refl, c .before .before .lay .ensures, refl, rw (← ch) refl)
 
 pub receive-spec : {M : Type 1} → statement M
 receive-spec =

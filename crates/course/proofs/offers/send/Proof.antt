@@ -1,29 +1,31 @@
 use native.Mathlib.Nat.{mul-le-mul, le-of-lt}
-use Prim.Native.Nat.{ℕ}
-use mathlib.Core.Path.{refl, ap}
+use Prim.Native.Nat.{ℕ, _≤_}
+use mathlib.Core.Path.{refl, ap, _∙_}
 use native.Mathlib.Omega.{arith}
+use lib.Count.{ones}
 use lib.ListN.{set}
+use Rattle.paper.proofs.Laws.Masks.{ones-mask, count-le}
 use borrow.Author.Needs.{needs}
 use Rattle.course.proofs.offers.send.Statement.{statement}
 use Rattle.course.proofs.offers.send.Tie as tie
 
 note-requires : tie.Need-note-requires
-note-requires c κs =
-    let ch = c .before .before .before .before .before .before .before .before .before .channel-number .ensures in
-    let p = c .before .before .before .before .before .before .before .before .before .before .before .before .before .pre in
-    (omega arith, p .5, p .6, rw (ch .0) (p .9))
+note-requires c κs = let ch = c .before .before .before .before .before .before .before .before .before .before .before .before .channel-number .ensures in let p = c .before .before .before .before .before .before .before .before .before .before .before .before .before .before .before .before .pre in (omega arith, p .5, p .6, rw (ch .0) (p .9))
 
 mul-lay : tie.Need-mul-lay
-mul-lay c =
-    let p = c .before .before .before .before .before .before .before .before .before .before .before .before .before .before .before .before .before .pre in
-    omega (arith, p .4, p .5, mul-le-mul (p .4) (le-of-lt (p .5)))
+mul-lay c = let p = c .before .before .before .before .before .before .before .before .before .before .before .before .before .before .before .before .before .before .before .pre in omega (arith, p .4, p .5, mul-le-mul (p .4) (le-of-lt (p .5)))
+
+-- A mask of n components has at most n ones.
+few-ones : (c : tie.After-slice-known5) → ones (c .before .before .before .before .before .before .before .before .before .before .before .before .before .cut .result) ≤ c .before .before .before .before .before .before .before .before .before .before .before .before .before .before .before .before .before .before .before .before .before .before .args .n
+few-ones c = rw (c .before .before .before .before .before .before .before .before .before .before .before .before .before .cut .ensures .0, ones-mask) (count-le _ _)
 
 returns : tie.Need-returns
 returns c =
-    let n = c .before .before .before .before .before .before .before .before .before .before .before .before .before .before .cut .ensures in
-    let w = c .before .before .before .before .before .before .note .ensures in
-    let ch = c .before .before .before .before .before .before .before .before .before .before .before .before .before .before .before .before .channel-number .ensures .0 in (
-      (n .0, refl, n .1 .1 .0, c .before .before .lay .ensures, ap (λ (m : ℕ). set (c .before .before .before .before .before .before .before .before .before .before .before .before .before .before .before .before .before .before .before .before .args .masks .now) (c .before .before .before .before .before .before .before .before .before .before .before .before .before .before .before .before .before .before .before .before .args .k) m) (n .1 .0), n .1 .1 .1),
+    let n = c .before .before .before .before .before .before .before .before .before .before .before .before .before .cut .ensures in
+    let w = c .before .before .before .before .before .note .ensures in
+    let a = c .before .before .before .before .before .before .before .before .before .before .before .before .before .before .before .before .before .before .before .before .before .before .args in
+    let ch = c .before .before .before .before .before .before .before .before .before .before .before .before .before .before .before .before .before .before .channel-number .ensures .0 in (
+      (n .1, n .2, refl, ap ones (n .0) ∙ ones-mask _ _, c .before .before .lay .ensures, ap (λ (m : ℕ). set (a .masks .now) (a .k) m) (n .0), n .3),
       (w .0, rw ch at (w .1), rw ch at (w .2), w .3, rw ch at (w .4)),
     )
 
@@ -38,6 +40,7 @@ send-spec =
     note-requires
     mul-lay
     (λ c κs. search needs)
+    (λ c. let p = c .before .before .before .before .before .before .before .before .before .before .before .before .before .before .before .before .before .before .before .before .before .before .pre in omega (arith, few-ones c, p .4))
     (λ c. search needs)
     (λ c. search needs)
     (λ c. search needs)

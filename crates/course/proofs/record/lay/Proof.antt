@@ -13,10 +13,10 @@ use Rattle.course.proofs.record.lay.Statement.{statement}
 use Rattle.course.proofs.record.lay.Tie as tie
 
 abbrev Inv-loop : tie.InvT-loop
-Inv-loop n out₀ at clock k₀ out k = (k ≤ n) × (length out ≡ length out₀) × (out ≡ sets out₀ at (upto (part clock) k))
+Inv-loop clock n out₀ at k₀ out k = (k ≤ n) × (length out ≡ length out₀) × (out ≡ sets out₀ at (upto (part clock) k))
 
 abbrev μ-loop : tie.MeasureT-loop
-μ-loop n out₀ at clock k₀ out k = n - k
+μ-loop clock n out₀ at k₀ out k = n - k
 
 loop-holds : tie.Need-loop-holds Inv-loop μ-loop
 unfolding upto
@@ -25,11 +25,11 @@ loop-holds c = search needs
 loop-again : tie.Need-loop-again Inv-loop μ-loop
 unfolding upto
 loop-again c =
-    let l = c .before .loop in
-    let a = c .before .before .args in (
+    let l = c .before .before .loop in
+    let a = c .before .before .before .args in (
       omega arith,
       rw length-set (l .inv .1),
-      rw add-one (stored (l .out) (a .out .now) (a .at) (l .k) _ (upto (part (a .t1)) (l .k)) (l .inv .2) (sym (length-upto (part (a .t1)) (l .k)))),
+      rw add-one (stored (l .out) (a .out .now) (a .at) (l .k) _ (upto (part (a .clock .now)) (l .k)) (l .inv .2) (sym (length-upto (part (a .clock .now)) (l .k)))),
     )
 
 returns : tie.Need-returns Inv-loop μ-loop
