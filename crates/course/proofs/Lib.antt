@@ -16,3 +16,4 @@ pub mod Early
 pub mod Emptied
 pub mod Called
 pub mod Passed
+pub mod Limits

@@ -6,3 +6,4 @@ pub mod Turn
 pub mod Course
 pub mod Early
 pub mod Said
+pub mod Lent
