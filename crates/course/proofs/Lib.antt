@@ -17,3 +17,5 @@ pub mod Emptied
 pub mod Called
 pub mod Passed
 pub mod Limits
+pub mod LentWalk
+pub mod OneRecord
