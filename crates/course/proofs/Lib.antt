@@ -16,3 +16,6 @@ pub mod Early
 pub mod Emptied
 pub mod Called
 pub mod Passed
+pub mod Limits
+pub mod LentWalk
+pub mod OneRecord

@@ -5,3 +5,4 @@ pub mod Turn
 pub mod Course
 pub mod Early
 pub mod Said
+pub mod Lent

@@ -1,8 +1,9 @@
 // The course of offers: each is judged, and the accepted events get their clocks and short stamps.
 mod channel;
 mod event;
+pub mod lent;
 mod offers;
-mod record;
+pub mod record;
 mod zero;
 
 ghost use mathlib.Core.Path.{_≡_};
