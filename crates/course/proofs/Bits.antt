@@ -8,11 +8,11 @@ use native.Mathlib.Numerals.{add-one}
 use native.Mathlib.Omega.{arith}
 use native.Mathlib.Decide.{decLt}
 use borrow.Author.Tests.{eq-eqb, ne-eqb}
-use lib.Count.{trailingZeros, under}
+use lib.Count.{ones, trailingZeros, under}
 use lib.Bits.{bitAnd, and-step, and-self, shifted-even}
 use lib.Pow.{pow-mono, pow-add, shr-shr, shl-shr, shl-exact}
 use Rattle.paper.specs.Stamp.{mask, count, bit}
-use Rattle.paper.proofs.Laws.Masks.{mask-lt}
+use Rattle.paper.proofs.Laws.Masks.{mask-lt, ones-mask, count-le}
 
 -- Bit k in a word of 32 bits, and a mask with that bit.
 pub one-shl : (k : ℕ) → k < 32 → (1 * 2 ^ k) % 2 ^ 32 ≡ 2 ^ k
@@ -23,6 +23,9 @@ mask-fits p k h =
     let two : 2 ^ suc k ≤ 2 ^ 32 = pow-mono h in
     let e : 2 ^ suc k ≡ 2 ^ k * 2 = pow-suc 2 k in
     omega (arith, mask-lt p k)
+
+pub few-ones : (p : ℕ → Bool) (n m : ℕ) → m ≡ mask p n → ones m ≤ n
+few-ones p n m e = rw (e, ones-mask p n) (count-le p n)
 
 pub count-skip : (p : ℕ → Bool) (j n : ℕ) → j ≤ n → ((k : ℕ) → j ≤ k → k < n → p k ≡ false) → count p n ≡ count p j
 unfolding count

@@ -49,11 +49,17 @@ fn is_roomy(len: usize, at: usize, n: usize) -> bool
 fn after_merge(r: Record, by: Process, mask: u32, values: &[u16], at: usize) -> Merged
     ensures { λ t. ⌜ (t .done, view (t .after)) ≡ merging (by .0) mask (now (values .entry)) at (view r) ⌝ }
 {
-    let clock = r.clock;
+    let mut clock = r.clock;
+    let mut updated = r.updated;
+    let sent = r.sent;
     if is_countable(by, clock) & (at <= values.len()) {
-        let t = r.take(by, mask, values, at);
+        super::record::take(by, mask, &mut clock, &mut updated, values, at);
         return Merged {
-            after: t,
+            after: Record {
+                clock: clock,
+                updated: updated,
+                sent: sent,
+            },
             done: true,
         };
     }
@@ -67,21 +73,26 @@ fn after_merge(r: Record, by: Process, mask: u32, values: &[u16], at: usize) -> 
 fn after_send(r: Record, from: Process, to: Process, n: usize, out: &mut [u16], at: usize) -> Sent
     ensures { λ t. ⌜ (said (t .stamp), view (t .after), now (out .exit)) ≡ stamping (from .0) (to .0) n (now (out .entry)) at (view r) ⌝ }
 {
-    let clock = r.clock;
+    let mut clock = r.clock;
+    let mut updated = r.updated;
+    let mut sent = r.sent;
     let j = to.0 as usize;
     if is_countable(from, clock)
         & (j < Clock::PROCESSES)
         & (n <= Clock::PROCESSES)
         & is_roomy(out.len(), at, n)
     {
-        let c = r.cut(from, to, n, out, at);
-        let kept = c.record;
+        let mask = super::record::cut(from, to, n, &mut clock, &mut updated, &mut sent, out, at);
         return Sent {
-            after: kept,
+            after: Record {
+                clock: clock,
+                updated: updated,
+                sent: sent,
+            },
             stamp: Stamped {
                 done: true,
-                mask: c.mask,
-                count: c.count,
+                mask: mask,
+                count: u32::count_ones(mask) as usize,
             },
         };
     }

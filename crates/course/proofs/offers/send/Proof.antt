@@ -1,10 +1,11 @@
 use native.Mathlib.Nat.{mul-le-mul, le-of-lt}
-use Prim.Native.Nat.{ℕ, _≤_}
+use Prim.Native.Nat.{ℕ}
 use mathlib.Core.Path.{refl, ap, _∙_}
 use native.Mathlib.Omega.{arith}
 use lib.Count.{ones}
 use lib.ListN.{set}
-use Rattle.paper.proofs.Laws.Masks.{ones-mask, count-le}
+use Rattle.paper.proofs.Laws.Masks.{ones-mask}
+use Rattle.course.proofs.Bits.{few-ones}
 use borrow.Author.Needs.{needs}
 use Rattle.course.proofs.offers.send.Statement.{statement}
 use Rattle.course.proofs.offers.send.Tie as tie
@@ -14,10 +15,6 @@ note-requires c κs = let ch = c .before .before .before .before .before .before
 
 mul-lay : tie.Need-mul-lay
 mul-lay c = let p = c .before .before .before .before .before .before .before .before .before .before .before .before .before .before .before .before .before .before .before .pre in omega (arith, p .4, p .5, mul-le-mul (p .4) (le-of-lt (p .5)))
-
--- A mask of n components has at most n ones.
-few-ones : (c : tie.After-slice-known5) → ones (c .before .before .before .before .before .before .before .before .before .before .before .before .before .cut .result) ≤ c .before .before .before .before .before .before .before .before .before .before .before .before .before .before .before .before .before .before .before .before .before .before .args .n
-few-ones c = rw (c .before .before .before .before .before .before .before .before .before .before .before .before .before .cut .ensures .0, ones-mask) (count-le _ _)
 
 returns : tie.Need-returns
 returns c =
@@ -40,7 +37,7 @@ send-spec =
     note-requires
     mul-lay
     (λ c κs. search needs)
-    (λ c. let p = c .before .before .before .before .before .before .before .before .before .before .before .before .before .before .before .before .before .before .before .before .before .before .pre in omega (arith, few-ones c, p .4))
+    (λ c. omega (arith, few-ones _ _ _ (c .before .before .before .before .before .before .before .before .before .before .before .before .before .cut .ensures .0), c .before .before .before .before .before .before .before .before .before .before .before .before .before .before .before .before .before .before .before .before .before .before .fits .n))
     (λ c. search needs)
     (λ c. search needs)
     (λ c. search needs)
