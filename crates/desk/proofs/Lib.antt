@@ -1,3 +1,4 @@
 mod Answered
 mod Asked
 mod Listed
+mod SheetOut
