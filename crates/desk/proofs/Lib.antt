@@ -2,3 +2,4 @@ mod Answered
 mod Asked
 mod Listed
 mod SheetOut
+pub mod NeverShort

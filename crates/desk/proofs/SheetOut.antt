@@ -29,16 +29,13 @@ use Rattle.desk.specs.Answers.{ample, write-refusal, write-answer}
 use Rattle.desk.specs.Said.{Stands}
 use Rattle.desk.specs.declared.Written.the-variants as page
 
--- 9 is not given.
-roomy : (n : ℕ) (list : List ℕ) → wrong-count n ≡ false → wrong-list list ≡ false → short n (how-many list) ample ≡ false
-roomy n list count size =
-    let m = how-many list in
-    let few = count-fits n count .1 in
-    let brief : m ≤ 512 = let f = list-fits (length list) size in omega (arith, f .1) in
+-- 9 is not given: there are at most 32 processes and 512 events.
+pub roomy : (n m : ℕ) → n ≤ 32 → m ≤ 512 → short n m ample ≡ false
+roomy n m few brief =
     let most : n * m ≤ 16384 = omega (arith, mul-le-mul few brief) in
     room n m ample .1 (record { clocks = most; masks = brief; values = most })
 
-never-scant : (n : ℕ) (list : List ℕ) → list-checks n list (short n (how-many list) ample) ≡ first (wrong-count n) 4 (first (wrong-list list) 8 0)
+pub never-scant : (n : ℕ) (list : List ℕ) → list-checks n list (short n (how-many list) ample) ≡ first (wrong-count n) 4 (first (wrong-list list) 8 0)
 never-scant n list = go (wrong-count n) (wrong-list list) refl refl
   where
     go :
@@ -46,10 +43,12 @@ never-scant n list = go (wrong-count n) (wrong-list list) refl refl
         → first x 4 (first y 8 (first (short n (how-many list) ample) 9 0)) ≡ first x 4 (first y 8 0)
     go true y p q = refl
     go false true p q = refl
-    go false false p q = rw (roomy n list p q)
+    go false false p q =
+        let size = list-fits (length list) q .1 in
+        rw (roomy n (how-many list) (count-fits n p .1) (omega (arith, size)))
 
 module _ (n : ℕ) (list : List ℕ) where
-  same-refusal : list-refusal n list ample ≡ write-refusal n list
+  pub same-refusal : list-refusal n list ample ≡ write-refusal n list
   unfolding list-refusal write-refusal
   same-refusal = ap (λ (k : ℕ). of-call k then first-refused 0 (answers n start (events-of list))) (never-scant n list)
 
