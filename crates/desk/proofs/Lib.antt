@@ -3,3 +3,4 @@ mod Asked
 mod Listed
 mod SheetOut
 pub mod NeverShort
+pub mod OnePage
