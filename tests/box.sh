@@ -8,8 +8,9 @@ cd "$(dirname "$0")/.." || exit 2
 programs='class 44
 listing 50
 compare 17
-chain 17'
-# The refusals that the entries show. 9 and 21 can't be had: the programs' own buffers are always long enough.
+chain 17
+write 36'
+# The refusals that the entries show. 9 and 21 can't be had: the programs' own buffers are always long enough (theorem `never-short`).
 refusals='1 2 3 4 5 6 7 8 10 11 12 13 14 15 16 18 19 20 22'
 
 bad=0
@@ -41,6 +42,9 @@ while read -r program least; do
     done
     [ "$entries" -ge "$least" ] || complain "$program has $entries entries, not $least"
 done <<<"$programs"
+
+# What is written of list A reads back as the listing that the paper prints.
+target/bin/write 3 <box/write/list_a.in | target/bin/listing | cmp box/listing/sheet_a.out - || complain "list A is not read back"
 
 for file in box/*/*; do
     program=$(basename "$(dirname "$file")")

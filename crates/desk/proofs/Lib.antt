@@ -1,3 +1,6 @@
 mod Answered
 mod Asked
 mod Listed
+mod SheetOut
+pub mod NeverShort
+pub mod OnePage

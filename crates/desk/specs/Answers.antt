@@ -4,13 +4,14 @@ use mathlib.Core.List.{List}
 use lib.ListN.{replicate}
 use Rattle.paper.specs.Buffers.{Work}
 use Rattle.paper.specs.Chain.{chain}
-use Rattle.paper.specs.Class.{class}
+use Rattle.paper.specs.Class.{wrong-list, class}
 use Rattle.paper.specs.Event.{events-of}
 use Rattle.paper.specs.Listing.{listing, refusal-line}
-use Rattle.paper.specs.Machine.{start, clocked}
+use Rattle.paper.specs.Machine.{start, answers, clocked}
 use Rattle.paper.specs.Questions.{comparing, chaining}
-use Rattle.paper.specs.Reading.{reading}
-use Rattle.paper.specs.Refusals.{Outcome, refused, done}
+use Rattle.paper.specs.Reading.{wrong-count, first-refused, reading}
+use Rattle.paper.specs.Refusals.{first, Refusal, of-call, _then_, Outcome, refused, done, outcome}
+use Rattle.paper.specs.Sheet.{written}
 use Rattle.lines.specs.Programs.{verdict-line, chain-line, class-listing}
 
 -- Slots for 512 events of 32 processes.
@@ -44,3 +45,11 @@ compare-answer sheet a b = text-of (λ r. verdict-said (r .processes) (r .list) 
 
 unfoldable pub chain-answer : List ℕ → ℕ → ℕ → List ℕ
 chain-answer sheet a b = text-of (λ r. chain-said (r .processes) (r .list) a b) (reading sheet ample .0)
+
+-- `write`: 4, 8, events in order, or else the sheet's bytes. Work buffers and page are always long enough, so there is no 9 and no 21.
+unfoldable pub write-refusal : ℕ → List ℕ → Refusal
+write-refusal n list =
+    of-call (first (wrong-count n) 4 (first (wrong-list list) 8 0)) then first-refused 0 (answers n start (events-of list))
+
+unfoldable pub write-answer : ℕ → List ℕ → Outcome (List ℕ)
+write-answer n list = outcome (write-refusal n list) (written n list)

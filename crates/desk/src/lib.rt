@@ -1,14 +1,22 @@
 // What the programs answer: the whole text for a whole input, over work buffers that are always large enough.
 ghost use Rattle.lines.specs.Text.{Printed};
-ghost use Rattle.desk.specs.Answers.{class-answer, listing-answer, verdict-said, chain-said, compare-answer, chain-answer};
+ghost use Rattle.desk.specs.Answers.{class-answer, listing-answer, verdict-said, chain-said, compare-answer, chain-answer, write-answer};
+ghost use Rattle.desk.specs.Said.{Stands};
 use clock::Position;
 use course::Classed;
 use order::Chained;
 use order::Compared;
 use sheet::Reading;
+use sheet::Wrote;
 
 // The bytes of a page, on which each answer is written: half a million hold every text.
 pub const PAGE: usize = 500000;
+
+// What `write` is to print, and how many bytes: a sheet on standard output, or a refusal's line on standard error.
+pub enum Written {
+    Sheet(usize),
+    Line(usize),
+}
 
 // What `class` prints of a list that is lent directly.
 pub fn class_answer(n: usize, list: &[u8], out: &mut [u8; PAGE]) -> usize
@@ -129,6 +137,20 @@ pub fn chain_answer(sheet: &[u8], first: Position, second: Position, out: &mut [
             let from = c.offset;
             chain_said(c.processes, &sheet[from..from + c.size], first, second, out)
         }
+    }
+}
+
+// What `write` prints of a list that is lent directly.
+pub fn write_answer(n: usize, list: &[u8], out: &mut [u8; PAGE]) -> Written
+    ensures { λ r. ⌜ Stands (now (out .entry)) (write-answer n (now (list .entry))) r (now (out .exit)) ⌝ }
+{
+    let mut clocks = [0u16; 16384];
+    let mut masks = [0u32; 512];
+    let mut values = [0u16; 16384];
+    let w = sheet::write(n, list, &mut clocks, &mut masks, &mut values, out);
+    match w {
+        Wrote::Refused(r) => Written::Line(lines::refusal_text(r, out)),
+        Wrote::Done(_, bytes) => Written::Sheet(bytes),
     }
 }
 

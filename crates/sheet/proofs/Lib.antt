@@ -4,3 +4,4 @@ pub mod Filled
 pub mod InOrder
 pub mod Slots
 pub mod Stored
+pub mod ReadBack

@@ -10,7 +10,9 @@ use Rattle.clock.specs.Said.{refusal}
 use Rattle.course.specs.Said.{late}
 use Rattle.paper.specs.Buffers.{Work}
 use Rattle.paper.specs.Event.{how-many}
+use Rattle.paper.specs.Questions as questions
 use Rattle.paper.specs.Questions.{Written}
+use Rattle.paper.specs.Reading as read
 use Rattle.paper.specs.Reading.{Read}
 use Rattle.paper.specs.Refusals.{Outcome, refused, done, of-call}
 use Rattle.paper.specs.Sheet.{list-offset, list-size}
@@ -33,6 +35,14 @@ Where b (reading.Accepted c) = (c .offset ≡ list-offset b) × (c .size ≡ lis
 abbrev pub wrote : declared-wrote.Wrote → Outcome Written
 wrote (writing.Refused r) = refused (refusal r)
 wrote (writing.Done m k) = done (record { events = m; bytes = k })
+
+-- What the reader promises: from the sheet b and the work buffers w it gives r and leaves w′.
+abbrev pub Reads : List ℕ → Work → declared-read.Reading → Work → Type 0
+Reads b w r w′ = (told b r, w′) ≡ read.reading b w
+
+-- What the writer promises: from n processes, the list, the work buffers w and the output out it gives r and leaves w′ and out′.
+abbrev pub Writes : ℕ → List ℕ → Work → List ℕ → declared-wrote.Wrote → Work → List ℕ → Type 0
+Writes n list w out r w′ out′ = (wrote r, w′, out′) ≡ questions.writing n list w out
 
 -- What is left to check and to write of a list whose stamps stand in the work buffers w.
 abbrev pub laying : ℕ → List ℕ → Work → List ℕ → Outcome Written × Work × List ℕ

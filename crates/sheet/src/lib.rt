@@ -5,11 +5,8 @@ mod reader;
 mod stamps;
 mod writer;
 
-ghost use mathlib.Core.Path.{_≡_};
-ghost use Rattle.paper.specs.Questions.{writing};
-ghost use Rattle.paper.specs.Reading.{reading};
 ghost use Rattle.course.specs.Said.{work};
-ghost use Rattle.sheet.specs.Said.{told, Where, wrote};
+ghost use Rattle.sheet.specs.Said.{Reads, Where, Writes};
 use clock::Position;
 use clock::Refusal;
 use course::Judged;
@@ -37,8 +34,8 @@ pub enum Wrote {
 
 // Reading: 1 to 7, 9, events in order, then stamps.
 pub fn read(sheet: &[u8], clocks: &mut [u16], masks: &mut [u32], values: &mut [u16]) -> Reading
-    ensures { λ r. ⌜ (told (now (sheet .entry)) r, work (now (clocks .exit)) (now (masks .exit)) (now (values .exit)))
-        ≡ reading (now (sheet .entry)) (work (now (clocks .entry)) (now (masks .entry)) (now (values .entry))) ⌝ }
+    ensures { λ r. ⌜ Reads (now (sheet .entry)) (work (now (clocks .entry)) (now (masks .entry)) (now (values .entry)))
+        r (work (now (clocks .exit)) (now (masks .exit)) (now (values .exit))) ⌝ }
     ensures { λ r. ⌜ Where (now (sheet .entry)) r ⌝ }
 {
     match header::head(sheet) {
@@ -59,8 +56,8 @@ pub fn write(
     values: &mut [u16],
     out: &mut [u8],
 ) -> Wrote
-    ensures { λ r. ⌜ (wrote r, work (now (clocks .exit)) (now (masks .exit)) (now (values .exit)), now (out .exit))
-        ≡ writing n (now (list .entry)) (work (now (clocks .entry)) (now (masks .entry)) (now (values .entry))) (now (out .entry)) ⌝ }
+    ensures { λ r. ⌜ Writes n (now (list .entry)) (work (now (clocks .entry)) (now (masks .entry)) (now (values .entry))) (now (out .entry))
+        r (work (now (clocks .exit)) (now (masks .exit)) (now (values .exit))) (now (out .exit)) ⌝ }
 {
     match course::strict(n, list, clocks, masks, values) {
         Judged::Refused(r) => Wrote::Refused(r),
