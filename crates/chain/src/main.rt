@@ -4,17 +4,9 @@ use libc::STDERR_FILENO;
 use libc::STDIN_FILENO;
 use libc::STDOUT_FILENO;
 
-fn usage() {
-    io::write_all(STDERR_FILENO, b"usage: chain FIRST SECOND < SHEET\n");
-}
-
 fn main() {
-    let lines::Number::Is(first) = desk::argument(1) else {
-        usage();
-        return;
-    };
-    let lines::Number::Is(second) = desk::argument(2) else {
-        usage();
+    let desk::Pair::Of(first, second) = desk::positions() else {
+        io::write_all(STDERR_FILENO, b"usage: chain FIRST SECOND < SHEET\n");
         return;
     };
     // One byte more than the longest sheet, so that a longer one is refused.

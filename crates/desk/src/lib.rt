@@ -161,6 +161,22 @@ pub fn argument(i: usize) -> lines::Number {
     lines::parse(&text[..n])
 }
 
+// The two positions that a question names, or that an argument is missing or wrong.
+pub enum Pair {
+    Of(usize, usize),
+    Missing,
+}
+
+pub fn positions() -> Pair {
+    let lines::Number::Is(first) = argument(1) else {
+        return Pair::Missing;
+    };
+    let lines::Number::Is(second) = argument(2) else {
+        return Pair::Missing;
+    };
+    Pair::Of(first, second)
+}
+
 // The first bytes of a page. No text is longer than a page, as its promise says.
 pub fn print(to: i32, page: &[u8; PAGE], length: usize) {
     let bytes = &page[..];

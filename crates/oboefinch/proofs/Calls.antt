@@ -21,9 +21,9 @@ use Rattle.paper.specs.Reading.{wrong-count, header-checks, first-refused, read
 use Rattle.paper.specs.Refusals.{first, of-call}
 use Rattle.paper.specs.Sheet.{processes-in, list-offset, list-size, list-in, stamps-in, piece, pieces, stamps-part, header, written}
 use Rattle.paper.specs.Stamp.{stamps}
-use Rattle.paper.proofs.ChainRight.{chain-right}
 use Rattle.paper.proofs.Laws.Runs.{clocked-few, clocked-all, length-events}
 use Rattle.paper.proofs.Laws.Tables.{cond-cases}
+use Rattle.paper.proofs.Lent.{chain-few}
 use Rattle.paper.proofs.Lent.Stamps.{slots-fit}
 use Rattle.paper.proofs.ReadExactly.{reading-number}
 use Rattle.paper.proofs.RoundTrip.{list-accepted, writing-number}
@@ -96,30 +96,12 @@ module _ (n : ℕ) (list : List ℕ) (w : Work) where
       (mild-small _ (then-mild (list-refusal n list w) _ list-mild (λ h. call-mild (first (no-such list a b) 20 0) (simp capped))))
       (λ h. verdict-small n _ _)
 
-  -- A chain has at most 511 sends.
-  chain-few :
-      (a b : ℕ) (out : List ℕ) → chaining-refusal n list w a b out .number ≡ 0 → length (chain (clocked n start (events-of list)) a b) ≤ 511
-  unfolding chaining-refusal
-  chain-few a b out h =
-      let os = events-of list in
-      let cs = clocked n start os in
-      let m = how-many list in
-      let ((given, roomy), (inside, (verdict, long))) =
-      both (list-refusal n list w) _ (list-accepted n list w)
-      (in-order (no-such list a b) 20 _ (omega arith) (neither (not (ltb a m)) (not (ltb b m)) (below a m) (below b m))
-      (in-order (not (eqb (judged n cs a b) 1)) 22 _ (omega arith) (equal (judged n cs a b) 1)
-      (last (ltb (length out) 512) 21 (omega arith) (not-below (length out) 512)))) .0 h in
-      let (events, few, size) = given .whole-records in
-      let all : length cs ≡ m = clocked-all n os start (given .accepted) ∙ length-events m list in
-      let before = verdict-right n (given .processes .1) os a b (omega arith) (omega arith) .first .0 verdict in
-      omega (arith, chain-right n (given .processes .1) os a b before .few)
-
   pub chaining-small : (a b : ℕ) (out : List ℕ) → Small (fields chain-fields (chaining n list w a b out .0))
   unfolding chaining chaining-refusal
   chaining-small a b out =
       outcome-small chain-fields (chaining-refusal n list w a b out) _
       (mild-small _ (then-mild (list-refusal n list w) _ list-mild (λ h. call-mild _ (simp capped))))
-      (λ h. record { number = omega arith; x = omega arith; y = omega arith; z = omega (arith, chain-few a b out h) })
+      (λ h. record { number = omega arith; x = omega arith; y = omega arith; z = omega (arith, chain-few n list w a b out h .0) })
 
   -- A written sheet has a header of 24 bytes, the list and the stamps.
   written-long : length (written n list) ≡ 24 + (length list + length (stamps-part n list))

@@ -1,14 +1,13 @@
 -- From comparing to the chain: what refuses the one refuses the other, then the checks 22 and 21, and what is written.
 use Prim.Native.Nat.{ℕ, _-_, _≤_, _<_}
-use native.Mathlib.Nat.{zero-add}
 use native.Mathlib.Omega.{arith}
 use mathlib.Core.Path.{_≡_, refl, sym, ap, _∙_}
 use mathlib.Core.Logic.{_≢_, inr}
 use mathlib.Core.Bool.{Bool, true, false, cond, not}
-use mathlib.Core.List.{List, append-nil}
+use mathlib.Core.List.{List}
 use lib.Dec.{eqb, ltb}
 use lib.ListN.{length}
-use lib.Seq.{sets, sets-eq}
+use lib.Seq.{sets}
 use borrow.Author.Tests.{eqb-false, ne-eqb}
 use Rattle.paper.specs.Buffers.{Work, laid, written-to}
 use Rattle.paper.specs.Event.{events-of, how-many}
@@ -18,6 +17,7 @@ use Rattle.paper.proofs.Laws.Refused.{after-done}
 use Rattle.paper.proofs.Sheets.Checks.{not-below, below, equal, neither, in-order, last, both, is-done}
 use Rattle.paper.proofs.Verdicts.{verdict-right}
 use Rattle.course.specs.Said.{late, of-list}
+use Rattle.paper.proofs.Laws.Stores.{laid-front}
 use Rattle.course.proofs.Passed.{is-refused, Passed, late-cleared}
 use Rattle.order.specs.Stands.{Stands, Reaches, sends, past-20}
 use Rattle.order.proofs.Asked.{passed, passed-stands}
@@ -37,11 +37,6 @@ question r t k = go (eqb (r .number) 0) t refl
     go true true e = (λ h. refl, λ h. absurd (omega arith))
     go true false e = (λ h. absurd (h refl), λ h. refl)
     go false t e = (λ h. refl, λ h. absurd (eqb-false (r .number) 0 e h))
-
--- What is stored from the front on is written to the output.
-written : (xs old : List ℕ) → length xs ≤ length old → sets old 0 xs ≡ laid (length xs) xs old
-unfolding laid
-written xs old h = let z : length xs - length xs ≡ 0 = omega arith in sets-eq xs old 0 (omega arith) ∙ rw (zero-add, z, append-nil)
 
 late-number : (v slots : ℕ) → past-20 v slots ≢ 0 → 9 < past-20 v slots
 late-number v slots = go (not (eqb v 1)) (ltb slots 512)
@@ -122,6 +117,6 @@ module _ (n : ℕ) (list : List ℕ) (w : Work) (a b : ℕ) (out : List ℕ) whe
       chain-done l out′ p q =
           let (s, r, room) = chain-reaches in
           let xs = sends n list a b in
-          let x : out′ ≡ laid (length xs) xs out = q ∙ written xs out (omega (arith, few n list (w′ .clocks) s a b r (length xs) refl)) in
+          let x : out′ ≡ laid (length xs) xs out = q ∙ laid-front xs out (omega (arith, few n list (w′ .clocks) s a b r (length xs) refl)) in
           let y = compare-passed n list w a b v w′ h .is in
           rw (is, ← e, z, after-done 0 n (how-many list) (of-list n list) w refl) (λ i. (done (p i), y i, x i))

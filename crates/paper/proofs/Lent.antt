@@ -156,11 +156,11 @@ module _ (n : ℕ) (list : List ℕ) (w : Work) where
   comparing-lent a b = questions-lent _
 
   -- The chain has at most 511 positions, and the output has at least 512 slots.
-  chain-short :
+  pub chain-few :
       (a b : ℕ) (out : List ℕ) → chaining-refusal n list w a b out .number ≡ 0
-      → length (chain (clocked n start (events-of list)) a b) ≤ length out
+      → (length (chain (clocked n start (events-of list)) a b) ≤ 511) × (512 ≤ length out)
   unfolding chaining-refusal
-  chain-short a b out h =
+  chain-few a b out h =
       let os = events-of list in
       let cs = clocked n start os in
       let m = how-many list in
@@ -172,14 +172,14 @@ module _ (n : ℕ) (list : List ℕ) (w : Work) where
       let (events, few, size) = given .whole-records in
       let all : length cs ≡ m = clocked-all n os start (given .accepted) ∙ length-events m list in
       let before = verdict-right n (given .processes .1) os a b (omega arith) (omega arith) .first .0 verdict in
-      omega (arith, chain-right n (given .processes .1) os a b before .few)
+      (omega (arith, chain-right n (given .processes .1) os a b before .few), long)
 
   chaining-lent : (a b : ℕ) (out : List ℕ) → SameLengths (chaining n list w a b out .1) w × (length (chaining n list w a b out .2) ≡ length out)
   unfolding chaining written-to chaining-refusal
   chaining-lent a b out = (
     questions-lent _,
     output-lent (chaining-refusal n list w a b out .number) _ (chain (clocked n start (events-of list)) a b) out
-        (λ h. (omega arith, chain-short a b out h)),
+        (λ h. let f = chain-few a b out h in (omega arith, omega arith)),
   )
 
 -- Of every input of every call that is lent slices to write in.

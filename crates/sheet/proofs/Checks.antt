@@ -9,7 +9,8 @@ use lib.Dec.{eqb}
 use lib.ListN.{length}
 use borrow.Author.Tests.{eq-eqb, ne-eqb, eqb-false}
 use Rattle.paper.specs.Reading.{wrong-count, header-checks}
-use Rattle.paper.specs.Refusals.{Outcome, of-call, refused, done, outcome}
+use Rattle.paper.specs.Refusals.{Refusal, of-call, refused, done, outcome}
+use Rattle.course.proofs.Passed as course
 use Rattle.sheet.specs.Header.{in-turn, parts-in, wrong-length, wrong-letters, wrong-version, wrong-zeros, wrong-list, wrong-stamps, Lies}
 use Rattle.sheet.specs.declared.header.Parts.{Parts}
 
@@ -34,15 +35,7 @@ finds a p r n e h q = rw (← e, eq-eqb r 0 h, q)
 
 -- What the answer says: the number that refuses; of what is found, `is-done` of the paper.
 pub is-refused : {A : Type 0} (a : A) (r n : ℕ) → refused (of-call r) ≡ outcome (of-call n) a → (n ≡ r) × (n ≢ 0)
-is-refused {A} a r n h = go (eqb n 0) refl h
-  where
-    number : Outcome A → ℕ
-    number (refused k) = k .number
-    number (done x) = 0
-
-    go : (t : Bool) → eqb n 0 ≡ t → refused (of-call r) ≡ cond t (done a) (refused (of-call n)) → (n ≡ r) × (n ≢ 0)
-    go true e q = let z : _≡_ {A = ℕ} 0 1 = cc in absurd (omega arith)
-    go false e q = (sym (ap number q), eqb-false n 0 e)
+is-refused a r n h = let (z, q) = course.is-refused (of-call n) a (of-call r) h in (sym (ap (λ (x : Refusal). x .number) q), z)
 
 -- Later checks count where these do not refuse.
 later : (b1 b2 b3 b4 b5 b6 b7 : Bool) (k : ℕ) → let r = in-turn b1 b2 b3 b4 b5 b6 b7 0 in in-turn b1 b2 b3 b4 b5 b6 b7 k ≡ cond (eqb r 0) k r

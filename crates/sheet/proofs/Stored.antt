@@ -8,6 +8,7 @@ use native.Mathlib.Omega.{arith}
 use lib.Count.{ones}
 use lib.ListN.{length, getD, set, take, length-append, length-set}
 use lib.Seq.{sets, sets-eq, take-suc, take-length}
+use Rattle.paper.proofs.Laws.Stores.{laid-front}
 use Rattle.paper.specs.Buffers.{laid, all-ones, values-begin}
 use Rattle.paper.specs.Bytes.{two-bytes, four-bytes}
 use Rattle.paper.specs.Event.{how-many}
@@ -129,8 +130,4 @@ module _ (l list masks vs : List ℕ) (slots : Slots list masks vs) (at : ℕ) w
 
 -- Stored from the front on and all within, the bytes are laid as the paper says.
 pub laid-there : {l m t : List ℕ} {r : ℕ} → Appended l 0 t r m → length t ≤ length l → m ≡ laid (length t) t l
-unfolding laid
-laid-there {l} {m} {t} a h =
-    let z : length t - length t ≡ 0 = omega arith in
-    let e : 0 + length t ≡ length t = omega arith in
-    a .bytes ∙ sets-eq t l 0 (omega arith) ∙ rw (z, e, append-nil)
+laid-there {l} {m} {t} a h = a .bytes ∙ laid-front t l h
