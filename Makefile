@@ -1,7 +1,7 @@
 # make list SHEET=path   build the listing program and list a sheet
 # make test              the gate: all proofs, must-fail edits, programs and tests
 # make soak CASES=n      the library against the second program on n fresh cases; the first difference is kept in box/found
-# make bench             both timed on the same inputs in one run
+# make bench             both timed on the same inputs in one run, and the listing program against cat
 CASES ?= 100000
 .PHONY: list test soak bench
 
@@ -16,3 +16,4 @@ soak:
 
 bench:
 	@rt staticlib oboefinch >/dev/null && cd rust && cargo run --release --offline --quiet --bin bench
+	@rt check listing >/dev/null && cd rust && cargo run --release --offline --quiet --bin programs -- ../target/bin/listing ../box/listing/sheet_a.in
