@@ -1,0 +1,17 @@
+pub mod Bits
+pub mod Over
+pub mod Walk
+pub mod Views
+pub mod Events
+pub mod Late
+pub mod Chains
+pub mod Rows
+pub mod Judging
+pub mod Turns
+pub mod OneOffer
+pub mod Loop
+pub mod Going
+pub mod Limits
+pub mod LentWalk
+pub mod OneRecord
+pub mod Early
