@@ -15,3 +15,4 @@ pub mod Limits
 pub mod LentWalk
 pub mod OneRecord
 pub mod Early
+pub mod OneCall
