@@ -24,26 +24,12 @@ use Rattle.paper.proofs.Laws.Refused.{refused-none, refused-at, events-split, a
 use Rattle.paper.proofs.Laws.Runs.{clocked-few, clocked-all, length-events}
 use Rattle.paper.proofs.Laws.Stores.{sets-laid, sets-cleared, getD-sets}
 use Rattle.paper.proofs.Lent.Stamps.{SlotsFit, slots-fit}
-use Rattle.course.specs.Course.{Lent, All-accepted, Stopped, Through, Ran}
-use Rattle.course.specs.Early.{Tail}
+use Rattle.offers.specs.Called.{Called}
+use Rattle.offers.specs.Course.{Lent, All-accepted, Stopped, Through, Ran}
+use Rattle.offers.specs.Turn.{state-at}
+use Rattle.offers.proofs.Early.{Enough, lent, early-class, early-list}
 use Rattle.course.specs.Said.{work}
-use Rattle.course.specs.Turn.{state-at}
-use Rattle.course.proofs.Early.{Enough}
-
--- What is lent is enough for the course.
-pub lent : (n : ℕ) (list clocks masks values told : List ℕ) → Enough n (length list) (length clocks) (length masks) (length values) (length told)
-    → Lent n (length list / 8) list clocks masks values told
-lent n list clocks masks values told e =
-    record {
-      some = e .some;
-      few = e .few;
-      short = omega (arith, e .brief);
-      bytes = omega (arith, e .whole);
-      clock = e .clock;
-      mask = e .mask;
-      value = e .value;
-      answer = e .answer;
-    }
+use Rattle.course.specs.Slots.{Tail}
 
 module _ (mode : Bool) (n m : ℕ) (l clocks₀ masks₀ values₀ told₀ clocks masks values told : List ℕ) (tried k v : ℕ)
     (room : Lent n m l clocks₀ masks₀ values₀ told₀) (ran : Ran mode n m l clocks₀ masks₀ values₀ told₀ clocks masks values told tried k v) where
@@ -201,6 +187,26 @@ module _ (n : ℕ) (list : List ℕ) (w : Work) where
         let z : a ≢ 0 = no-event in
         let g : given ≡ record { number = a; position = j } = λ i. record { number = en i; position = ep i } in
         rw (passed, refused-first n m list j l all no-event, ne-eqb a 0 z, after-late a n m (clocked n start (events-of list)) w late, g, ew)
+
+-- A call that 4, 8 or 9 refuses.
+module _ (mode : Bool) (n : ℕ) (list clocks₀ masks₀ values₀ told₀ clocks masks values told : List ℕ) (number tried k v : ℕ) (given : Refusal) where
+  pub class-kept :
+      Called mode n list clocks₀ masks₀ values₀ told₀ clocks masks values told number tried k v → number ≢ 0 → given ≡ of-call number
+      → (refused given, work clocks masks values, told) ≡ class n list (work clocks₀ masks₀ values₀) told₀
+  class-kept call z g =
+      let u = call .refused z in
+      let w = work clocks₀ masks₀ values₀ in
+      (λ i. (refused (g i), work (u .clock i) (u .mask i) (u .value i), u .answer i))
+      ∙ class-refused n list w told₀ number (call .checked ∙ early-class n list w told₀) z
+
+  pub strict-kept :
+      Called mode n list clocks₀ masks₀ values₀ told₀ clocks masks values told number tried k v → length told₀ ≡ 512 → number ≢ 0 → given ≡ of-call number
+      → (refused given, work clocks masks values) ≡ strict n list (work clocks₀ masks₀ values₀)
+  strict-kept call l z g =
+      let u = call .refused z in
+      let w = work clocks₀ masks₀ values₀ in
+      (λ i. (refused (g i), work (u .clock i) (u .mask i) (u .value i)))
+      ∙ strict-early n list w number (call .checked ∙ rw l (early-list n list w)) z
 
 -- The two calls, from what the course left behind and what was tidied.
 module _ (n : ℕ) (list clocks₀ masks₀ values₀ told₀ clocks masks values told clocks′ masks′ values′ : List ℕ) (tried k v : ℕ)

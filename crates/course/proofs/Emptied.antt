@@ -1,8 +1,9 @@
 -- What `clear` does: where the named slots are lent they are set to 0, and otherwise nothing is written.
 use Prim.Native.Nat.{ℕ, _-_, _*_, _≤_}
+use native.Mathlib.Nat.{mul-le-mul, le-refl}
 use native.Mathlib.Omega.{arith}
 use mathlib.Core.Path.{_≡_, _∙_}
-use mathlib.Core.Bool.{true, false, _||_, not}
+use mathlib.Core.Bool.{true, false, _||_, not, or-false}
 use mathlib.Core.List.{List, [], flatMap}
 use lib.Dec.{ltb}
 use lib.ListN.{length, replicate}
@@ -13,12 +14,19 @@ use Rattle.paper.specs.Stamp.{stamps-after}
 use Rattle.paper.proofs.Laws.Stores.{sets-cleared}
 use Rattle.paper.proofs.Laws.Tests.{and-both}
 use Rattle.paper.proofs.Sheets.Checks.{not-below, neither}
-use borrow.Author.Tests.{not-true}
-use Rattle.course.specs.Early.{scant, named, Tail}
+use borrow.Author.Tests.{not-true, le-ltb}
+use Rattle.offers.specs.Early.{scant}
 use Rattle.course.specs.Said.{work, late}
+use Rattle.course.specs.Slots.{named, Tail}
 
 pub few : (n m : ℕ) → (ltb most-processes n || ltb most-events m) ≡ false → (n ≤ 32) × (m ≤ 512)
 few n m h = neither (ltb most-processes n) (ltb most-events m) (not-below most-processes n) (not-below most-events m) .0 h
+
+-- Room for as many answers as there are events need not be looked at.
+pub no-answers :
+    (n m clocks masks values : ℕ) → (ltb most-processes n || ltb most-events m) ≡ false
+    → not (ltb clocks (n * m) || ltb masks m || ltb values (n * m)) ≡ named n m clocks masks values
+no-answers n m clocks masks values h = rw (h, le-ltb m m (omega arith), or-false (ltb clocks (n * m) || ltb masks m || ltb values (n * m)))
 
 module _ (n m : ℕ) (clocks masks values : List ℕ) where
   pub room : named n m (length clocks) (length masks) (length values) ≡ true → Tail n m 0 0 clocks masks values
@@ -49,3 +57,12 @@ module _ (n m : ℕ) (clocks masks values : List ℕ) where
 
   pub kept : named n m (length clocks) (length masks) (length values) ≡ false → work clocks masks values ≡ late n m (work clocks masks values)
   kept h = rw h
+
+-- Products of what is lent fit.
+pub record Products (n m k : ℕ) : Type 0 where
+  pub used : n * k ≤ n * m
+  pub small : n * m ≤ 16384
+
+pub products : (n m k v : ℕ) (clocks masks values : List ℕ) → Tail n m k v clocks masks values → Products n m k
+products n m k v clocks masks values t =
+    record { used = mul-le-mul (le-refl n) (t .accepted); small = omega (arith, mul-le-mul (t .few) (t .short)) }

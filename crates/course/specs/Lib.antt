@@ -1,8 +1,2 @@
-pub mod View
-pub mod Tables
-pub mod Ledger
-pub mod Turn
-pub mod Course
-pub mod Early
+pub mod Slots
 pub mod Said
-pub mod Lent

@@ -9,7 +9,7 @@ use Rattle.paper.specs.Class.{Classed}
 use Rattle.paper.specs.Event.{events-of}
 use Rattle.paper.specs.Machine.{Clocked, start, clocked}
 use Rattle.paper.specs.Refusals.{Outcome, refused, done}
-use Rattle.course.specs.Early.{named}
+use Rattle.course.specs.Slots.{named}
 use Rattle.course.specs.declared.Classed as declared-class
 use Rattle.course.specs.declared.Classed.the-variants as class
 use Rattle.course.specs.declared.Judged as declared-judged

@@ -1,21 +1,16 @@
-// The course of offers: each is judged, and the accepted events get their clocks and short stamps.
-mod channel;
-mod event;
-pub mod lent;
-mod offers;
-pub mod record;
+// Class mode and the strict course: the outcome of a list of offers, and every slot of the lent buffers.
 mod zero;
 
 ghost use mathlib.Core.Path.{_≡_};
-ghost use Prim.Native.Nat.{_-_, _*_, _≤_};
-ghost use lib.ListN.{length, replicate};
+ghost use Prim.Native.Nat.{_-_, _*_};
+ghost use lib.ListN.{replicate};
 ghost use lib.Seq.{sets};
 ghost use Rattle.paper.specs.Class as paper;
 ghost use Rattle.paper.specs.Questions as questions;
 ghost use Rattle.paper.specs.Refusals.{of-call};
 ghost use Rattle.clock.specs.Said.{refusal};
-ghost use Rattle.course.specs.Early.{scant, early, named, Tail};
 ghost use Rattle.course.specs.Said.{work, classed, judged, late};
+ghost use Rattle.course.specs.Slots.{named, Tail};
 use clock::Clock;
 use clock::Position;
 use clock::Refusal;
@@ -40,37 +35,6 @@ fn of_call(number: u8) -> Refusal
         number: number,
         position: Position(0),
     }
-}
-
-// 9: whether a lent buffer is too short for m offers of n processes.
-fn is_scant(n: usize, m: usize, clocks: usize, masks: usize, values: usize, answers: usize) -> bool
-    requires { ⌜ (n ≤ 32) × (m ≤ 512) ⌝ }
-    ensures { λ r. ⌜ r ≡ scant n m clocks masks values answers ⌝ }
-{
-    (clocks < n * m) | (masks < m) | (values < n * m) | (answers < m)
-}
-
-// 4, 8, 9 by the lengths of what is lent, or 0.
-fn early_number(
-    n: usize,
-    list: usize,
-    clocks: usize,
-    masks: usize,
-    values: usize,
-    answers: usize,
-) -> u8
-    ensures { λ r. ⌜ r ≡ early n list clocks masks values answers ⌝ }
-{
-    if (n < 1) | (32 < n) {
-        return 4;
-    }
-    if (list % 8 != 0) | (4096 < list) {
-        return 8;
-    }
-    if is_scant(n, list / 8, clocks, masks, values, answers) {
-        return 9;
-    }
-    0
 }
 
 // The named slots behind those of k accepted events and their v carried values are set to 0.
@@ -100,7 +64,7 @@ fn is_lent(n: usize, m: usize, clocks: usize, masks: usize, values: usize) -> bo
     if (Clock::PROCESSES < n) | (Clock::EVENTS < m) {
         return false;
     }
-    !is_scant(n, m, clocks, masks, values, m)
+    !((clocks < n * m) | (masks < m) | (values < n * m))
 }
 
 // What a later refusal does: the slots named for m events of n processes are set to 0, where they are lent.
@@ -125,20 +89,19 @@ pub fn class(
     ensures { λ r. ⌜ (classed r, work (now (clocks .exit)) (now (masks .exit)) (now (values .exit)), now (answers .exit))
         ≡ paper.class n (now (list .entry)) (work (now (clocks .entry)) (now (masks .entry)) (now (values .entry))) (now (answers .entry)) ⌝ }
 {
-    let number = early_number(
-        n,
-        list.len(),
-        clocks.len(),
-        masks.len(),
-        values.len(),
-        answers.len(),
-    );
-    if number != 0 {
-        return Classed::Refused(of_call(number));
+    let t = offers::course(false, n, list, clocks, masks, values, answers);
+    if t.number != 0 {
+        return Classed::Refused(of_call(t.number));
     }
-    let m = list.len() / 8;
-    let t = offers::course(false, n, m, list, clocks, masks, values, answers);
-    tidy(n, m, t.accepted, t.carried, clocks, masks, values);
+    tidy(
+        n,
+        list.len() / 8,
+        t.accepted,
+        t.carried,
+        clocks,
+        masks,
+        values,
+    );
     Classed::Done(t.accepted, t.carried)
 }
 
@@ -154,12 +117,11 @@ pub fn strict(
         ≡ questions.strict n (now (list .entry)) (work (now (clocks .entry)) (now (masks .entry)) (now (values .entry))) ⌝ }
 {
     let mut answers = [0u8; 512];
-    let number = early_number(n, list.len(), clocks.len(), masks.len(), values.len(), 512);
-    if number != 0 {
-        return Judged::Refused(of_call(number));
+    let t = offers::course(true, n, list, clocks, masks, values, &mut answers);
+    if t.number != 0 {
+        return Judged::Refused(of_call(t.number));
     }
     let m = list.len() / 8;
-    let t = offers::course(true, n, m, list, clocks, masks, values, &mut answers);
     if t.accepted == t.tried {
         tidy(n, m, t.accepted, t.carried, clocks, masks, values);
         return Judged::Done(t.carried);

@@ -12,7 +12,7 @@ use Rattle.paper.specs.Event.{how-many, events-of}
 use Rattle.paper.specs.Listing.{refusal-line}
 use Rattle.paper.specs.Machine.{Clocked, start, answers, clocked}
 use Rattle.paper.specs.Refusals.{Refusal, Outcome, refused, done}
-use Rattle.course.proofs.Early.{Enough, enough}
+use Rattle.offers.proofs.Early.{Enough, enough}
 use Rattle.lines.specs.Programs.{class-text, class-listing}
 use Rattle.lines.specs.Text.{Printed}
 use Rattle.lines.proofs.Faithful.{class-after}

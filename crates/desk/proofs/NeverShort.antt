@@ -19,7 +19,7 @@ use Rattle.paper.specs.Refusals.{first, Refusal, of-call, _then_, refused, outc
 use Rattle.paper.specs.Sheet.{processes-in, list-offset, list-size, list-in, stamps-in, pieces}
 use Rattle.paper.proofs.Laws.Tables.{cond-cases}
 use Rattle.paper.proofs.Sheets.Header.{header-says}
-use Rattle.course.proofs.Early.{early-class, early-list}
+use Rattle.offers.proofs.Early.{early-class, early-list}
 use Rattle.course.proofs.Passed.{is-refused}
 use Rattle.sheet.proofs.Checks.{header-then}
 use Rattle.desk.specs.Answers.{ample, write-refusal, write-answer}

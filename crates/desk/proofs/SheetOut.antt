@@ -21,7 +21,7 @@ use Rattle.paper.specs.Sheet.{written}
 use Rattle.paper.proofs.RoundTrip.{list-accepted, writing-number}
 use Rattle.paper.proofs.Sheets.Checks.{is-done, room}
 use Rattle.paper.proofs.Sheets.Layout.{written-good}
-use Rattle.course.proofs.Early.{count-fits, list-fits}
+use Rattle.offers.proofs.Early.{count-fits, list-fits}
 use Rattle.course.proofs.Passed.{is-refused}
 use Rattle.sheet.proofs.Stored.{laid-there}
 use Rattle.lines.specs.Text.{Printed}

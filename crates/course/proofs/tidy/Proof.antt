@@ -1,5 +1,5 @@
 use native.Mathlib.Omega.{arith}
-use Rattle.course.proofs.Early.{products}
+use Rattle.course.proofs.Emptied.{products}
 use borrow.Author.Needs.{needs}
 use Rattle.course.proofs.tidy.Statement.{statement}
 use Rattle.course.proofs.tidy.Tie as tie
