@@ -2,40 +2,79 @@
 use Prim.Native.Nat.{ℕ, zero, suc, _+_, _-_, _*_, _/_, _%_, _^_, _≤_, _<_}
 use mathlib.Core.Bool.{Bool, true, false, cond}
 use mathlib.Core.Path.{_≡_, refl, sym, ap, _∙_}
+use mathlib.Core.List.{[]}
 use mathlib.Core.Logic.{_⊎_, inl, inr}
-use native.Mathlib.Nat.{eq-or-lt-of-le, pow-suc, div-one, zero-div, mul-assoc, div-mul-le-self}
+use native.Mathlib.Nat.{eq-or-lt-of-le, pow-suc, div-one, zero-div, add-zero, mul-add, mul-comm, mul-assoc, div-mul-le-self}
 use native.Mathlib.Numerals.{add-one}
 use native.Mathlib.Omega.{arith}
 use native.Mathlib.Decide.{decLt}
 use borrow.Author.Tests.{eq-eqb, ne-eqb}
 use lib.Count.{ones, trailingZeros, under}
-use lib.Bits.{bitAnd, and-step, and-self, shifted-even}
-use lib.Pow.{pow-mono, pow-add, shr-shr, shl-shr, shl-exact}
-use Rattle.paper.specs.Stamp.{mask, count, bit}
-use Rattle.paper.proofs.Laws.Masks.{mask-lt, ones-mask, count-le}
+use lib.Bits.{bitAnd, bitOr, or-shifted-r, and-step, and-self, shifted-even}
+use lib.ListN.{length}
+use lib.Pow.{pow-mono, pow-add, shr-shr, shl-shr, shl-exact, low}
+use Rattle.paper.specs.Clock.{Clock}
+use Rattle.paper.specs.Stamp.{mask, count, values, bit}
+use Rattle.paper.proofs.Laws.Masks.{mask-lt, ones-mask, count-le, length-values, values-more, bit-mask, bit-behind}
 
--- Bit k in a word of 32 bits, and a mask with that bit.
-pub one-shl : (k : ℕ) → k < 32 → (1 * 2 ^ k) % 2 ^ 32 ≡ 2 ^ k
+-- Bit k in a word of 32 bits.
+one-shl : (k : ℕ) → k < 32 → (1 * 2 ^ k) % 2 ^ 32 ≡ 2 ^ k
 one-shl k h = shl-exact {a = 1} 1 k 32 (omega arith) (omega arith) ∙ omega arith
 
-pub mask-fits : (p : ℕ → Bool) (k : ℕ) → k < 32 → mask p k + 2 ^ k < 2 ^ 32
-mask-fits p k h =
-    let two : 2 ^ suc k ≤ 2 ^ 32 = pow-mono h in
-    let e : 2 ^ suc k ≡ 2 ^ k * 2 = pow-suc 2 k in
-    omega (arith, mask-lt p k)
+-- A bit above a mask, set.
+pub bit-set : (p : ℕ → Bool) (k : ℕ) → k < 32 → bitOr (mask p k) ((1 * 2 ^ k) % 2 ^ 32) ≡ mask p k + 2 ^ k
+bit-set p k h =
+    let e : 1 * 2 ^ k ≡ 2 ^ k = omega arith in
+    ap (bitOr (mask p k)) (one-shl k h ∙ sym e) ∙ or-shifted-r 1 k (mask p k) (mask-lt p k) ∙ omega arith
 
 pub few-ones : (p : ℕ → Bool) (n m : ℕ) → m ≡ mask p n → ones m ≤ n
 few-ones p n m e = rw (e, ones-mask p n) (count-le p n)
 
-pub count-skip : (p : ℕ → Bool) (j n : ℕ) → j ≤ n → ((k : ℕ) → j ≤ k → k < n → p k ≡ false) → count p n ≡ count p j
-unfolding count
-count-skip p j zero h e = let q : j ≡ 0 = omega arith in rw q
-count-skip p j (suc n) h e = go (count-skip p j n) (eq-or-lt-of-le h)
+-- A stretch without carried components adds no value.
+pub values-skip : (p : ℕ → Bool) (v : Clock) (j n : ℕ) → j ≤ n → ((k : ℕ) → j ≤ k → k < n → p k ≡ false) → values p v n ≡ values p v j
+unfolding values
+values-skip p v j zero h e = let q : j ≡ 0 = omega arith in rw q
+values-skip p v j (suc n) h e = go (values-skip p v j n) (eq-or-lt-of-le h)
   where
-    go : (j ≤ n → ((k : ℕ) → j ≤ k → k < n → p k ≡ false) → count p n ≡ count p j) → (j ≡ suc n) ⊎ (j < suc n)
-        → cond (p n) (count p n + 1) (count p n) ≡ count p j
+    go : (j ≤ n → ((k : ℕ) → j ≤ k → k < n → p k ≡ false) → values p v n ≡ values p v j) → (j ≡ suc n) ⊎ (j < suc n)
+        → values p v (suc n) ≡ values p v j
     go ih (inl q) = rw q
     go ih (inr q) = rw (e n (omega arith) (omega arith)) (ih (omega arith) (λ k a b. e k a (omega arith)))
+
+pub count-skip : (p : ℕ → Bool) (j n : ℕ) → j ≤ n → ((k : ℕ) → j ≤ k → k < n → p k ≡ false) → count p n ≡ count p j
+count-skip p j n h e = sym (length-values p [] n) ∙ ap length (values-skip p [] j n h e) ∙ length-values p [] j
+
+-- The mask of the components below n is what division by 2 ^ n leaves of a longer one.
+longer : (p : ℕ → Bool) (n d : ℕ) → (h : ℕ) × (mask p (n + d) ≡ 2 ^ n * h + mask p n)
+unfolding mask
+longer p n zero = (0, rw add-zero (omega arith))
+longer p n (suc d) = let e : n + suc d ≡ suc (n + d) = omega arith in rw e (go (p (n + d)) (longer p n d))
+  where
+    go : (b : Bool) → ((h : ℕ) × (mask p (n + d) ≡ 2 ^ n * h + mask p n))
+        → (h : ℕ) × (cond b (mask p (n + d) + 2 ^ (n + d)) (mask p (n + d)) ≡ 2 ^ n * h + mask p n)
+    go true (h, q) = (h + 2 ^ d, omega (arith, pow-add 2 n d, mul-add (2 ^ n) h (2 ^ d)))
+    go false w = w
+
+pub mask-low : (p : ℕ → Bool) (n : ℕ) → n ≤ 32 → mask p 32 % 2 ^ n ≡ mask p n
+mask-low p n h =
+    let (t, q) = longer p n (32 - n) in
+    let e : n + (32 - n) ≡ 32 = omega arith in
+    ap (λ (x : ℕ). x % 2 ^ n) (ap (mask p) (sym e) ∙ q ∙ omega (arith, mul-comm (2 ^ n) t)) ∙ low t n (mask-lt p n)
+
+-- The components whose bits are set in the mask of those below n are just these.
+values-same : (p q : ℕ → Bool) (v : Clock) (n : ℕ) → ((k : ℕ) → k < n → p k ≡ q k) → values p v n ≡ values q v n
+unfolding values
+values-same p q v zero h = refl
+values-same p q v (suc n) h = rw (h n (omega arith), values-same p q v n (λ k l. h k (omega arith)))
+
+pub values-kept : (p : ℕ → Bool) (v : Clock) (n : ℕ) → n ≤ 32 → values (bit (mask p n)) v 32 ≡ values p v n
+values-kept p v n h =
+    let e : n + (32 - n) ≡ 32 = omega arith in
+    ap (values (bit (mask p n)) v) (sym e) ∙ values-more (bit (mask p n)) v n (32 - n) (bit-behind p n)
+    ∙ values-same (bit (mask p n)) p v n (bit-mask p n)
+
+pub count-kept : (p : ℕ → Bool) (n : ℕ) → n ≤ 32 → count (bit (mask p n)) 32 ≡ count p n
+count-kept p n h = sym (length-values (bit (mask p n)) [] 32) ∙ ap length (values-kept p [] n h) ∙ length-values p [] n
 
 half : (m t : ℕ) → m / 2 ^ suc t ≡ m / 2 / 2 ^ t
 half m t = let e : suc t ≡ 1 + t = omega arith in rw e (sym (shr-shr m 1 t))

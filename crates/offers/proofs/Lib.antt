@@ -1,6 +1,7 @@
 pub mod Bits
 pub mod Over
 pub mod Walk
+pub mod Picking
 pub mod Views
 pub mod Events
 pub mod Late

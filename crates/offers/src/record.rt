@@ -5,7 +5,7 @@ ghost use Prim.Native.Nat.{ℕ, _+_, _≤_, _<_};
 ghost use lib.ListN.{length, getD, set};
 ghost use lib.Seq.{sets};
 ghost use Rattle.paper.specs.Clock.{part};
-ghost use Rattle.paper.specs.Stamp.{mask, count, values, unpacked, upto};
+ghost use Rattle.paper.specs.Stamp.{mask, bit, count, values, unpacked, upto};
 ghost use Rattle.paper.specs.Running.{counting, sending, receiving, news};
 ghost use Rattle.offers.specs.View.{viewing, newer, Whole};
 use clock::Process;
@@ -14,6 +14,36 @@ pub struct Record {
     pub clock: [u16; 32],
     pub updated: [u16; 32],
     pub sent: [u16; 32],
+}
+
+// The mask of the components that grew after `last`. The count of turns is fixed, so that eight are done at once.
+fn grown(updated: &[u16; 32], last: u16) -> u32
+    ensures { λ r. ⌜ r ≡ mask (newer (now (updated .entry)) last) 32 ⌝ }
+{
+    let mut m: u32 = 0;
+    let mut k: usize = 0;
+    while k < 32 {
+        if last < updated[k] {
+            m = m | (1u32 << k);
+        }
+        k = k + 1;
+    }
+    m
+}
+
+// The components whose bits are set, stored in `out` from `at` on. The mask is walked from its lowest set bit to its highest.
+fn pick(clock: &[u16; 32], mask: u32, out: &mut [u16], at: usize)
+    requires { ⌜ at + count (bit mask) 32 ≤ length (now out) ⌝ }
+    ensures { λ _. ⌜ now (out .exit) ≡ sets (now (out .entry)) at (values (bit mask) (now (clock .entry)) 32) ⌝ }
+{
+    let mut c = at;
+    let mut rest = mask;
+    while rest != 0 {
+        let k = u32::trailing_zeros(rest) as usize;
+        out[c] = clock[k];
+        c = c + 1;
+        rest = rest & (rest - 1);
+    }
 }
 
 // The mask of the components below n that grew after `last`; their values are stored in `out` from `at` on.
@@ -29,17 +59,8 @@ fn gather(
     ensures { λ r. ⌜ r ≡ mask (newer (now (updated .entry)) last) n ⌝ }
     ensures { λ _. ⌜ now (out .exit) ≡ sets (now (out .entry)) at (values (newer (now (updated .entry)) last) (now (clock .entry)) n) ⌝ }
 {
-    let mut m: u32 = 0;
-    let mut c: usize = 0;
-    let mut k: usize = 0;
-    while k < n {
-        if last < updated[k] {
-            m = m + (1u32 << k);
-            out[at + c] = clock[k];
-            c = c + 1;
-        }
-        k = k + 1;
-    }
+    let m = ((grown(updated, last) as u64) % (1u64 << n)) as u32;
+    pick(clock, m, out, at);
     m
 }
 

@@ -1,91 +1,55 @@
 use borrow.Author.Needs.{needs}
-use borrow.Author.Tests.{lt-ltb, le-ltb}
-use Prim.Native.Nat.{_-_, _≤_}
-use mathlib.Core.Path.{_≡_, sym, ap, _∙_}
-use mathlib.Core.Logic.{⊎-elim}
-use native.Mathlib.Numerals.{add-one}
+use Prim.Native.Nat.{ℕ, _*_, _%_, _^_, _≤_}
+use mathlib.Core.List.{List}
+use mathlib.Core.Path.{_≡_, ap, _∙_}
 use native.Mathlib.Omega.{arith}
-use lib.ListN.{length, length-set, getD}
+use lib.Pow.{pow-mono, shl-exact}
 use lib.Seq.{sets}
-use Rattle.paper.specs.Stamp.{mask, count, values}
+use Rattle.paper.specs.Stamp.{mask, bit, values}
+use Rattle.paper.proofs.Laws.Masks.{mask-lt, count-le}
 use Rattle.offers.specs.View.{newer}
-use Rattle.paper.proofs.Laws.Masks.{length-values}
-use Rattle.paper.proofs.Laws.Stores.{stored}
-use Rattle.offers.proofs.Bits.{one-shl, mask-fits}
+use Rattle.offers.proofs.Bits.{mask-low, values-kept, count-kept}
 use Rattle.offers.proofs.record.gather.Statement.{statement}
 use Rattle.offers.proofs.record.gather.Tie as tie
 
-abbrev Inv-loop : tie.InvT-loop
-Inv-loop clock updated last n out₀ at m₀ c₀ k₀ out m c k =
-    (k ≤ n) × (c ≤ k) × (length out ≡ length out₀) × (m ≡ mask (newer updated last) k) × (c ≡ count (newer updated last) k)
-    × (out ≡ sets out₀ at (values (newer updated last) clock k))
+divisor : (c : tie.After-grown) → (1 * 2 ^ c .before .before .args .n) % 2 ^ 64 ≡ 2 ^ c .before .before .args .n
+divisor c = let h = c .before .before .pre .1 in shl-exact {a = 1} 1 (c .before .before .args .n) 64 (omega arith) (omega arith) ∙ omega arith
 
-abbrev μ-loop : tie.MeasureT-loop
-μ-loop clock updated last n out₀ at m₀ c₀ k₀ out m c k = n - k
+-- What is kept of the mask of all components is the mask of those below n.
+kept : (c : tie.After-grown) → c .grown .result % ((1 * 2 ^ c .before .before .args .n) % 2 ^ 64) ≡ mask (newer (c .before .before .args .updated .now) (c .before .before .args .last)) (c .before .before .args .n)
+kept c = let a = c .before .before .args in rw (divisor c, c .grown .ensures) (mask-low (newer (a .updated .now) (a .last)) (a .n) (c .before .before .pre .1))
 
-loop-holds : tie.Need-loop-holds Inv-loop μ-loop
-unfolding mask count values
-loop-holds c = search needs
+rem-m : tie.Need-rem-m
+rem-m c = omega (arith, divisor c, mask-lt (newer (c .before .before .args .updated .now) (c .before .before .args .last)) (c .before .before .args .n))
 
-add-m : tie.Need-add-m Inv-loop μ-loop
-add-m c =
-    let l = c .before .before .before .loop in
-    let a = c .before .before .before .before .args in
-    omega (arith, one-shl (l .k) (omega arith), mask-fits (newer (a .updated .now) (a .last)) (l .k) (omega arith))
+cast-m-2 : tie.Need-cast-m-2
+cast-m-2 c =
+    let n = c .before .before .args .n in
+    let two : 2 ^ n ≤ 2 ^ 32 = pow-mono (c .before .before .pre .1) in
+    omega (arith, kept c, mask-lt (newer (c .before .before .args .updated .now) (c .before .before .args .last)) n)
 
-loop-again : tie.Need-loop-again Inv-loop μ-loop
-unfolding mask count values
-loop-again c =
-    let l = c .before .before .before .loop in
-    let a = c .before .before .before .before .args in
+pick-requires : tie.Need-pick-requires
+pick-requires c κs =
+    let a = c .before .before .before .args in
     let p = newer (a .updated .now) (a .last) in
-    ⊎-elim
-    (λ w.
-    let yes = lt-ltb _ _ (w .0 .taken) in
-    let x = getD (a .clock .now) (l .k) 0 in (
-      omega arith,
-      omega arith,
-      ap length (w .2) ∙ length-set (l .out) _ _ ∙ l .inv .2,
-      rw (add-one, yes) (omega (arith, one-shl (l .k) (omega arith))),
-      rw (add-one, yes) (omega arith),
-      rw (add-one, yes) (w .2 ∙ stored (l .out) (a .out .now) (a .at) (l .c) x (values p (a .clock .now) (l .k)) (l .inv .5) (l .inv .4 ∙ sym (length-values p (a .clock .now) (l .k)))),
-    ))
-    (λ w.
-    let no = le-ltb _ _ (w .0 .left) in (
-      omega arith,
-      omega arith,
-      ap length (w .1) ∙ l .inv .2,
-      rw (add-one, no) (w .2 ∙ l .inv .3),
-      rw (add-one, no) (w .3 ∙ l .inv .4),
-      rw (add-one, no) (w .1 ∙ l .inv .5),
-    ))
-    (c .if1 .came)
+    rw (kept (c .before), count-kept p (a .n) (c .before .before .before .pre .1)) (omega (arith, c .before .before .before .pre .0, count-le p (a .n)))
 
-returns : tie.Need-returns Inv-loop μ-loop
+returns : tie.Need-returns
 returns c =
-    let e : c .before .loop .k ≡ c .before .before .args .n = omega arith in
-    let i = c .before .loop .inv in (rw (← e) (i .3), rw (← e) (i .5))
+    let a = c .before .before .before .before .before .before .args in
+    let p = newer (a .updated .now) (a .last) in
+    let k = kept (c .before .before .before .before) in
+    (k, c .before .before .pick .ensures ∙ ap (λ (x : ℕ). sets (a .out .now) (a .at) (values (bit x) (a .clock .now) 32)) k ∙ ap (sets (a .out .now) (a .at)) (values-kept p (a .clock .now) (a .n) (c .before .before .before .before .before .before .pre .1)))
 
 pub gather-spec : {M : Type 1} → statement M
 gather-spec =
     tie.close
     (tie.spec
-    Inv-loop
-    μ-loop
-    loop-holds
+    (λ c κs. search needs)
     (λ c. search needs)
     (λ c. search needs)
-    (λ c. search needs)
-    (λ c. search needs)
-    add-m
-    (λ c. search needs)
-    (λ c. search needs)
-    (λ c. search needs)
-    (λ c. search needs)
-    (λ c. search needs)
-    (λ c. search needs)
-    (λ c. search needs)
-    (λ c. search needs)
-    loop-again
+    rem-m
+    cast-m-2
+    pick-requires
     (λ c. search needs)
     returns)
