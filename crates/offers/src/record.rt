@@ -120,10 +120,11 @@ pub(crate) fn cut(
         (values (news (counting (from .0) (viewing (now (clock .entry)) (now (updated .entry)) (now (sent .entry)))) (to .0))
         (counting (from .0) (viewing (now (clock .entry)) (now (updated .entry)) (now (sent .entry))) .clock) n)) ⌝ }
 {
-    let own = count(from, clock, updated);
+    count(from, clock, updated);
+    let i = from.0 as usize;
     let j = to.0 as usize;
     let mask = gather(clock, updated, sent[j], n, out, at);
-    sent[j] = own;
+    sent[j] = clock[i];
     mask
 }
 

@@ -1,10 +1,7 @@
-use Prim.Native.Nat.{ℕ}
-use mathlib.Core.List.{List}
-use mathlib.Core.Path.{_≡_, sym, ap, _∙_}
+use mathlib.Core.Path.{_≡_, ap, _∙_}
 use native.Mathlib.Omega.{arith}
-use lib.ListN.{length, length-set, set}
-use lib.Seq.{sets, getD-set-same}
-use Rattle.paper.specs.Clock.{part}
+use lib.ListN.{length, length-set}
+use lib.Seq.{sets}
 use Rattle.paper.specs.Stamp.{mask, values}
 use Rattle.paper.specs.Running.{Running, counting, sending, news}
 use Rattle.offers.specs.View.{viewing}
@@ -16,11 +13,11 @@ use Rattle.offers.proofs.record.cut.Tie as tie
 returns : tie.Need-returns
 unfolding news
 returns c =
-    let a = c .before .before .before .before .before .before .before .before .before .before .before .before .args in
-    let h = c .before .before .before .before .before .before .before .before .before .before .before .before .pre in
+    let a = c .before .before .before .before .before .before .before .before .before .before .before .before .before .before .args in
+    let h = c .before .before .before .before .before .before .before .before .before .before .before .before .before .before .pre in
     let w = h .5 in
-    let n = c .before .before .before .before .before .before .before .before .count in
-    let g = c .before .before .gather .ensures in
+    let n = c .before .before .before .before .before .before .before .before .before .before .count in
+    let g = c .before .before .before .gather .ensures in
     let v = a .clock .now in
     let u = a .updated .now in
     let i = a .from .0 in
@@ -30,10 +27,9 @@ returns c =
     let v′ = n .last .1 .0 in
     let u′ = n .last .1 .1 .0 in
     let e : viewing v′ u′ s ≡ counting i (viewing v u s) =
-    rw (k .1, k .2) (counted-view v u s i (n .result) (omega (arith, w .clock)) (omega (arith, w .updated)) (k .0)) in
-    let own : n .result ≡ part v′ i = sym (ap (λ (x : List ℕ). part x i) (k .1) ∙ getD-set-same v i (n .result) 0 (omega (arith, w .clock))) in (
+    rw (k .1, k .2) (counted-view v u s i (n .result) (omega (arith, w .clock)) (omega (arith, w .updated)) (k .0)) in (
       g .0 ∙ ap (λ (x : Running). mask (news x j) (a .n)) e,
-      ap (λ (x : ℕ). viewing v′ u′ (set s j x)) own ∙ sent-view v′ u′ s i j (omega (arith, w .sent)) ∙ ap (sending i j) e,
+      sent-view v′ u′ s i j (omega (arith, w .sent)) ∙ ap (sending i j) e,
       record {
         clock = ap length (k .1) ∙ length-set v i _ ∙ w .clock;
         updated = ap length (k .2) ∙ length-set u i _ ∙ w .updated;
@@ -50,7 +46,10 @@ cut-spec =
     (λ c. search needs)
     (λ c. search needs)
     (λ c. search needs)
+    (λ c. search needs)
     (λ c κs. search needs)
+    (λ c. search needs)
+    (λ c. search needs)
     (λ c. search needs)
     (λ c. search needs)
     (λ c. search needs)
