@@ -155,10 +155,10 @@ pub fn write_answer(n: usize, list: &[u8], out: &mut [u8; PAGE]) -> Written
 }
 
 // The number that a program's argument says. A missing argument and one of more than 5 bytes are 0 bytes long here.
-pub fn argument(i: usize) -> lines::Number {
+pub fn argument(i: usize) -> number::Number {
     let mut text = [0u8; 5];
     let n = os::arg(i, &mut text);
-    lines::parse(&text[..n])
+    number::parse(&text[..n])
 }
 
 // The two positions that a question names, or that an argument is missing or wrong.
@@ -168,10 +168,10 @@ pub enum Pair {
 }
 
 pub fn positions() -> Pair {
-    let lines::Number::Is(first) = argument(1) else {
+    let number::Number::Is(first) = argument(1) else {
         return Pair::Missing;
     };
-    let lines::Number::Is(second) = argument(2) else {
+    let number::Number::Is(second) = argument(2) else {
         return Pair::Missing;
     };
     Pair::Of(first, second)

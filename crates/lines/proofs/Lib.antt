@@ -2,4 +2,3 @@ pub mod Laws
 pub mod Slots
 pub mod Faithful
 mod Others
-mod Arguments

@@ -1,4 +1,3 @@
 pub mod Text
 pub mod Slots
 pub mod Programs
-pub mod Number

@@ -5,9 +5,7 @@ ghost use Rattle.clock.specs.Said.{number, refusal};
 ghost use Rattle.lines.specs.Text.{Printed};
 ghost use Rattle.lines.specs.Slots.{listing-text};
 ghost use Rattle.lines.specs.Programs.{verdict-line, chain-text, class-text};
-ghost use Rattle.lines.specs.Number.{number-of};
 
-mod digits;
 mod event;
 mod listing;
 mod programs;
@@ -83,26 +81,4 @@ pub fn class_text(
     }
     let k = programs::put_class_head(out, m, n, accepted, carried);
     programs::put_offers(out, k, n, list, answers, clocks, masks)
-}
-
-// What an argument says.
-pub enum Number {
-    Is(usize),
-    None,
-}
-
-// A decimal number of 1 to 5 digits, or none.
-pub fn parse(text: &[u8]) -> Number
-    ensures { λ r. ⌜ r ≡ number-of (now (text .entry)) ⌝ }
-{
-    if text.len() < 1 {
-        return Number::None;
-    }
-    if 5 < text.len() {
-        return Number::None;
-    }
-    if digits::all_digits(text) {
-        return Number::Is(digits::value(text));
-    }
-    Number::None
 }

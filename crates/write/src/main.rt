@@ -5,7 +5,7 @@ use libc::STDIN_FILENO;
 use libc::STDOUT_FILENO;
 
 fn main() {
-    let lines::Number::Is(n) = desk::argument(1) else {
+    let number::Number::Is(n) = desk::argument(1) else {
         io::write_all(STDERR_FILENO, b"usage: write PROCESSES < LIST\n");
         return;
     };

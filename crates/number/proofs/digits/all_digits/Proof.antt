@@ -3,10 +3,10 @@ use Prim.Native.Nat.{_≤_}
 use mathlib.Core.Path.{_≡_}
 use native.Mathlib.Omega.{arith}
 use lib.ListN.{length, drop}
-use Rattle.lines.specs.Number.{all-digits}
-use Rattle.lines.proofs.Arguments.{digits-end, digits-before}
-use Rattle.lines.proofs.digits.all_digits.Statement.{statement}
-use Rattle.lines.proofs.digits.all_digits.Tie as tie
+use Rattle.number.specs.Digits.{all-digits}
+use Rattle.number.proofs.Walks.{digits-end, digits-before}
+use Rattle.number.proofs.digits.all_digits.Statement.{statement}
+use Rattle.number.proofs.digits.all_digits.Tie as tie
 
 abbrev Inv-loop : tie.InvT-loop
 Inv-loop s all₀ i₀ all i = (i ≤ length s) × (all ≡ all-digits (drop i s))

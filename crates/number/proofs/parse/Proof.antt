@@ -1,10 +1,10 @@
 use mathlib.Core.Path.{_∙_, sym, ap}
 use borrow.Author.Tests.{le-leb, lt-leb}
-use Rattle.lines.specs.declared.Number.the-variants.{Is}
-use Rattle.lines.specs.Number.{number-of}
+use Rattle.number.specs.declared.Number.the-variants.{Is}
+use Rattle.number.specs.Digits.{number-of}
 use borrow.Author.Needs.{needs}
-use Rattle.lines.proofs.parse.Statement.{statement}
-use Rattle.lines.proofs.parse.Tie as tie
+use Rattle.number.proofs.parse.Statement.{statement}
+use Rattle.number.proofs.parse.Tie as tie
 
 returns : tie.Need-returns
 unfolding number-of

@@ -9,7 +9,7 @@ use native.Mathlib.Omega.{arith}
 use lib.Dec.{lit<}
 use lib.ListN.{length, getD, drop}
 use lib.Seq.{drop-cons, drop-length}
-use Rattle.lines.specs.Number.{is-digit, all-digits, value-behind}
+use Rattle.number.specs.Digits.{is-digit, all-digits, value-behind}
 
 -- Behind the end there are none but digits; and so from i - 1 on, where it holds from i on and of the byte before.
 pub digits-end : (s : List ℕ) → true ≡ all-digits (drop (length s) s)

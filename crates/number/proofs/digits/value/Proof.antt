@@ -2,9 +2,9 @@ use borrow.Author.Needs.{needs}
 use Prim.Native.Nat.{_-_}
 use native.Mathlib.Omega.{arith}
 use lib.ListN.{length}
-use Rattle.lines.proofs.Arguments.{Made, made-none, made-more, made-all, made-fits}
-use Rattle.lines.proofs.digits.value.Statement.{statement}
-use Rattle.lines.proofs.digits.value.Tie as tie
+use Rattle.number.proofs.Walks.{Made, made-none, made-more, made-all, made-fits}
+use Rattle.number.proofs.digits.value.Statement.{statement}
+use Rattle.number.proofs.digits.value.Tie as tie
 
 abbrev Inv-loop : tie.InvT-loop
 Inv-loop s v₀ i₀ v i = Made s v i
