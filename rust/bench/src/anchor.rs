@@ -1,4 +1,5 @@
-//! A tuned implementation to hold the library's times against: class mode and reading.
+//! A tuned implementation to hold the library's times against: class mode and reading, in two forms that differ
+//! in how a send's mask is made: one component after another, or (`WIDE`) several at a time.
 //!
 //! Used numbers are a bit set, queues are threaded through the accepted events, and stamps are cut
 //! from the running record of source document 000 with its last update and last sent.
@@ -30,7 +31,7 @@ const NEW_RECORD: Record = Record {
     last_sent: [0; MOST_PROCESSES],
 };
 
-struct Anchor<'a> {
+struct Anchor<'a, const WIDE: bool> {
     n: usize,
     work: Work<'a>,
     accepted: usize,
@@ -44,7 +45,7 @@ struct Anchor<'a> {
     values_begin: [u16; MOST_EVENTS],
 }
 
-pub fn class(n: usize, list: &[u8], work: Work, answers: &mut [u8]) -> u64 {
+pub fn class<const WIDE: bool>(n: usize, list: &[u8], work: Work, answers: &mut [u8]) -> u64 {
     if !(1..=MOST_PROCESSES).contains(&n) {
         return refused(Check::ProcessCount, 0);
     }
@@ -55,7 +56,7 @@ pub fn class(n: usize, list: &[u8], work: Work, answers: &mut [u8]) -> u64 {
     if !has_room(&work, n, m) || answers.len() < m {
         return refused(Check::WorkLength, 0);
     }
-    let mut anchor = Anchor::new(n, m, work);
+    let mut anchor = Anchor::<WIDE>::new(n, m, work);
     for (record, answer) in list.chunks_exact(RECORD_SIZE).zip(answers) {
         *answer = match anchor.offer(record) {
             Ok(()) => 0,
@@ -66,7 +67,7 @@ pub fn class(n: usize, list: &[u8], work: Work, answers: &mut [u8]) -> u64 {
     pack(0, 0, anchor.accepted, anchor.entries)
 }
 
-pub fn read(sheet: &[u8], work: Work) -> u64 {
+pub fn read<const WIDE: bool>(sheet: &[u8], work: Work) -> u64 {
     let header = match header_of(sheet) {
         Ok(header) => header,
         Err(check) => return refused(check, 0),
@@ -75,7 +76,7 @@ pub fn read(sheet: &[u8], work: Work) -> u64 {
     if !has_room(&work, header.processes, m) {
         return refused(Check::WorkLength, 0);
     }
-    let mut anchor = Anchor::new(header.processes, m, work);
+    let mut anchor = Anchor::<WIDE>::new(header.processes, m, work);
     match anchor.judge(&header) {
         Ok(()) => {
             anchor.clear_unused();
@@ -98,7 +99,7 @@ fn has_room(work: &Work, n: usize, m: usize) -> bool {
     work.clocks.len() >= n * m && work.masks.len() >= m && work.values.len() >= n * m
 }
 
-impl<'a> Anchor<'a> {
+impl<'a, const WIDE: bool> Anchor<'a, WIDE> {
     /// Keeps only the named slots of the work buffers.
     fn new(n: usize, m: usize, work: Work<'a>) -> Self {
         Anchor {
@@ -173,7 +174,12 @@ impl<'a> Anchor<'a> {
         *word |= bit;
         self.join_queue(process * MOST_PROCESSES + addressee, number);
         let record = &self.records[process];
-        let grown = greater_than(&record.last_update, record.last_sent[addressee]);
+        let sent = record.last_sent[addressee];
+        let grown = if WIDE {
+            greater_at_once(&record.last_update, sent)
+        } else {
+            greater_one_by_one(&record.last_update[..self.n], sent)
+        };
         let own = self.count(process);
         let record = &mut self.records[process];
         record.last_sent[addressee] = own;
@@ -274,7 +280,7 @@ impl<'a> Anchor<'a> {
 
 /// One bit for each number that is greater; the multiplication gathers eight flags into a byte.
 #[inline]
-fn greater_than(numbers: &[u16; MOST_PROCESSES], limit: u16) -> u32 {
+fn greater_at_once(numbers: &[u16; MOST_PROCESSES], limit: u16) -> u32 {
     const GATHER: u64 = 0x0102_0408_1020_4080;
     let flags = numbers.map(|number| u8::from(number > limit));
     let (groups, _) = flags.as_chunks::<8>();
@@ -282,6 +288,18 @@ fn greater_than(numbers: &[u16; MOST_PROCESSES], limit: u16) -> u32 {
         .iter()
         .map(|eight| (u64::from_le_bytes(*eight).wrapping_mul(GATHER) >> 56) as u32);
     bytes.rev().fold(0, |mask, byte| mask << 8 | byte)
+}
+
+/// The same, one number after another.
+#[inline]
+fn greater_one_by_one(numbers: &[u16], limit: u16) -> u32 {
+    let mut mask = 0;
+    for (k, number) in numbers.iter().enumerate() {
+        if *number > limit {
+            mask |= 1 << k;
+        }
+    }
+    mask
 }
 
 fn after_stamp<'a>(rest: &'a [u8], mask: u32, values: &[u16]) -> Option<&'a [u8]> {
@@ -377,7 +395,7 @@ mod tests {
     const CASES: u64 = 20_000;
 
     #[test]
-    fn the_anchor_agrees_with_the_second_program() {
+    fn both_anchors_agree_with_the_second_program() {
         for index in 0..CASES {
             let case = case_of(seed_of_case(11, index));
             let timed = match case.call {
@@ -390,11 +408,13 @@ mod tests {
                 processes: case.processes,
                 input: case.input,
             };
-            let mut by_anchor = Buffers::with_lengths(case.work, case.output);
-            let mut by_second = by_anchor.clone();
-            let packed = call(Side::Anchor, &task, &mut by_anchor);
-            assert_eq!(packed, call(Side::Second, &task, &mut by_second));
-            assert_eq!(by_anchor, by_second);
+            let lent = Buffers::with_lengths(case.work, case.output);
+            let [second, tuned, wide] = [Side::Second, Side::Tuned, Side::Wide].map(|side| {
+                let mut buffers = lent.clone();
+                (call(side, &task, &mut buffers), buffers)
+            });
+            assert_eq!(tuned, second);
+            assert_eq!(wide, second);
         }
     }
 }

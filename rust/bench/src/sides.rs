@@ -18,7 +18,8 @@ pub enum TimedCall {
 pub enum Side {
     Library,
     Second,
-    Anchor,
+    Tuned,
+    Wide,
 }
 
 /// A call and its input: a list for class mode, a sheet for reading.
@@ -72,8 +73,10 @@ pub fn call(side: Side, task: &Task, buffers: &mut Buffers) -> u64 {
         (Side::Library, TimedCall::Read) => raw::read(input, work.clocks, work.masks, work.values),
         (Side::Second, TimedCall::Class) => packed::class(n, input, work, answers),
         (Side::Second, TimedCall::Read) => packed::read(input, work),
-        (Side::Anchor, TimedCall::Class) => anchor::class(n, input, work, answers),
-        (Side::Anchor, TimedCall::Read) => anchor::read(input, work),
+        (Side::Tuned, TimedCall::Class) => anchor::class::<false>(n, input, work, answers),
+        (Side::Tuned, TimedCall::Read) => anchor::read::<false>(input, work),
+        (Side::Wide, TimedCall::Class) => anchor::class::<true>(n, input, work, answers),
+        (Side::Wide, TimedCall::Read) => anchor::read::<true>(input, work),
     }
 }
 
