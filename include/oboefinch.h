@@ -13,17 +13,18 @@
  *   compare, order    0                   verdict          0                0
  *   chain             0                   0                0                length of the chain
  *
- * A verdict is 1 where the first is before the second, 2 where it is after, 3 where it is neither. The position is that of the event
- * where an event or its stamp is refused, otherwise 0.
+ * read_lamport answers as read does, class_lamport as class. A verdict is 1 where the first is before the second, 2 where it is after,
+ * 3 where it is neither. The position is that of the event where an event or its stamp is refused, otherwise 0.
  *
  * Work buffers, for n processes and a list of m events (8 bytes each): clocks has at least n * m slots, masks m, values n * m, and
- * answers of class m; else the call is refused with 9. These are the named slots. A sheet is at most 40960 bytes. A chain is written
- * only where its output has at least 512 slots, and a sheet only where its output has room for it; else the call is refused with 21.
+ * answers of class and lamports m; else the call is refused with 9. These are the named slots. A sheet is at most 40960 bytes. A chain
+ * is written only where its output has at least 512 slots, and a sheet only where its output has room for it; else the call is refused
+ * with 21.
  *
  * Buffers after a call: a refusal up to and including 9 writes nothing. A later one sets the named slots to 0 and leaves the outputs
  * (sheet of write, chain) untouched. On success clocks holds the clocks of the accepted events one after another, n slots each, masks
- * their masks, one each (0 where the event is no send), values the carried values; named slots not used are 0. All other slots, and
- * output beyond what is written, are untouched.
+ * their masks, one each (0 where the event is no send), values the carried values, lamports their Lamport numbers, one each; named
+ * slots not used are 0. All other slots, and output beyond what is written, are untouched.
  */
 #ifndef OBOEFINCH_H
 #define OBOEFINCH_H
@@ -41,12 +42,27 @@ uint64_t oboefinch_read(const uint8_t *sheet, size_t sheet_length,
                         uint32_t *masks, size_t masks_length,
                         uint16_t *values, size_t values_length);
 
+/* Reads a sheet like read, with the Lamport numbers of its events. */
+uint64_t oboefinch_read_lamport(const uint8_t *sheet, size_t sheet_length,
+                                uint16_t *clocks, size_t clocks_length,
+                                uint32_t *masks, size_t masks_length,
+                                uint16_t *values, size_t values_length,
+                                uint16_t *lamports, size_t lamports_length);
+
 /* Class mode: tries each offer of the list and goes on. The first m slots of answers hold 0 or the refusal number of each offer. */
 uint64_t oboefinch_class(size_t n, const uint8_t *list, size_t list_length,
                          uint16_t *clocks, size_t clocks_length,
                          uint32_t *masks, size_t masks_length,
                          uint16_t *values, size_t values_length,
                          uint8_t *answers, size_t answers_length);
+
+/* Class mode like class, with the Lamport numbers of the accepted events. */
+uint64_t oboefinch_class_lamport(size_t n, const uint8_t *list, size_t list_length,
+                                 uint16_t *clocks, size_t clocks_length,
+                                 uint32_t *masks, size_t masks_length,
+                                 uint16_t *values, size_t values_length,
+                                 uint8_t *answers, size_t answers_length,
+                                 uint16_t *lamports, size_t lamports_length);
 
 /* Writes the sheet of an event list. */
 uint64_t oboefinch_write(size_t n, const uint8_t *list, size_t list_length,

@@ -1,12 +1,13 @@
 #!/usr/bin/env bash
-# The box: for each stored input, each program writes exactly the stored bytes. An entry of box/PROGRAM/ is NAME.in, NAME.args (one line of words),
-# NAME.out, and NAME.err where something is expected on standard error. What is expected comes from the paper, not from these programs.
+# The box: for each stored input, each program writes exactly the stored bytes. An entry of box/PROGRAM/ is NAME.in, NAME.args (one line of words,
+# '' for an empty one), NAME.out, and NAME.err where something is expected on standard error. What is expected comes from the paper, not from these
+# programs.
 set -u
 cd "$(dirname "$0")/.." || exit 2
 
 # Each program, and how many entries it has at least: a box that lost some would pass by saying nothing.
 programs='class 44
-listing 50
+listing 63
 compare 17
 chain 17
 write 36'
@@ -27,6 +28,7 @@ run() { # PROGRAM ENTRY
     [ -f "$2.args" ] && [ -f "$2.out" ] || { complain "$2 has no args or no out"; return; }
     [ -f "$2.err" ] && errors=$2.err
     read -r -a words <"$2.args"
+    words=("${words[@]/#\'\'/}")
     "target/bin/$1" "${words[@]}" <"$2.in" >"$got/out" 2>"$got/err" || complain "$2 ended with status $?"
     cmp "$2.out" "$got/out" || complain "$2 differs on standard output"
     cmp "$errors" "$got/err" || complain "$2 differs on standard error"

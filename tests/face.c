@@ -22,11 +22,13 @@ static uint64_t packed(uint64_t number, uint64_t x, uint64_t y, uint64_t z)
 int main(int argc, char **argv)
 {
     static uint8_t sheet[40961], again[40961];
-    static uint16_t clocks[24], values[24], chain[512];
+    static uint16_t clocks[24], values[24], lamports[8], chain[512];
     static uint32_t masks[8];
     static uint8_t answers[8];
     static const uint32_t want_masks[8] = {1, 4, 0, 3, 0, 6, 0, 0};
     static const uint16_t want_last[3] = {3, 4, 1};
+    static const uint16_t want_lamports[8] = {1, 1, 2, 3, 4, 5, 4, 6};
+    static const uint16_t no_lamports[8] = {0};
     uint8_t *list = sheet + 24;
     FILE *file = argc == 2 ? fopen(argv[1], "rb") : NULL;
     size_t size = file ? fread(sheet, 1, sizeof sheet, file) : 0;
@@ -36,6 +38,15 @@ int main(int argc, char **argv)
     expect("the masks", 0, memcmp(masks, want_masks, sizeof masks) != 0);
     expect("the last clock", 0, memcmp(clocks + 21, want_last, sizeof want_last) != 0);
     expect("class", packed(0, 0, 8, 6), oboefinch_class(3, list, 64, clocks, 24, masks, 8, values, 24, answers, 8));
+    expect("read_lamport", packed(0, 3, 8, 6), oboefinch_read_lamport(sheet, size, clocks, 24, masks, 8, values, 24, lamports, 8));
+    expect("the Lamport numbers", 0, memcmp(lamports, want_lamports, sizeof lamports) != 0);
+    memset(lamports, 0, sizeof lamports);
+    expect("class_lamport", packed(0, 0, 8, 6),
+           oboefinch_class_lamport(3, list, 64, clocks, 24, masks, 8, values, 24, answers, 8, lamports, 8));
+    expect("the Lamport numbers of class", 0, memcmp(lamports, want_lamports, sizeof lamports) != 0);
+    expect("a short buffer of Lamport numbers", packed(9, 0, 0, 0),
+           oboefinch_read_lamport(sheet, size, clocks, 24, masks, 8, values, 24, lamports, 7));
+    expect("the Lamport numbers after 9", 0, memcmp(lamports, want_lamports, sizeof lamports) != 0);
     expect("write", packed(0, 0, 8, 116), oboefinch_write(3, list, 64, clocks, 24, masks, 8, values, 24, again, sizeof again));
     expect("the sheet written", 0, memcmp(sheet, again, 116) != 0);
     expect("1 and 3", packed(0, 3, 0, 0), oboefinch_compare(3, list, 64, clocks, 24, masks, 8, values, 24, 1, 3));
@@ -50,5 +61,8 @@ int main(int argc, char **argv)
     sheet[44] ^= 2; /* message 3 is not yet sent */
     expect("a damaged event", packed(15, 0, 2, 0), oboefinch_read(sheet, size, clocks, 24, masks, 8, values, 24));
     expect("a cleared mask", 0, masks[0]);
+    expect("a damaged event, with numbers asked for", packed(15, 0, 2, 0),
+           oboefinch_read_lamport(sheet, size, clocks, 24, masks, 8, values, 24, lamports, 8));
+    expect("the cleared Lamport numbers", 0, memcmp(lamports, no_lamports, sizeof lamports) != 0);
     return failures != 0;
 }

@@ -5,6 +5,7 @@ ghost use lib.ListN.{length};
 ghost use Rattle.paper.specs.Clock.{zero-clock};
 ghost use Rattle.paper.specs.Order.{within};
 ghost use Rattle.paper.specs.Questions.{ordering};
+ghost use Rattle.clock.specs.Scalar.{one-up};
 ghost use Rattle.clock.specs.Said.{number, ordered};
 
 // The number of a process, from 0.
@@ -103,4 +104,20 @@ pub fn order(first: &[u16], second: &[u16]) -> Ordered
         });
     }
     Ordered::Judged(judge(ways(first, second)))
+}
+
+// LC2 (b), then LC1: a process whose value is `own` receives a message that carries t, or nothing, which is 0. The largest u16 stays.
+pub fn one_up(own: u16, t: u16) -> u16
+    ensures { λ r. ⌜ r ≡ one-up own t ⌝ }
+{
+    if own == 65535 {
+        return own;
+    }
+    if t == 65535 {
+        return t;
+    }
+    if own < t {
+        return t + 1;
+    }
+    own + 1
 }

@@ -22,23 +22,26 @@ use Rattle.course.specs.Slots.{named, Tail}
 pub few : (n m : ℕ) → (ltb most-processes n || ltb most-events m) ≡ false → (n ≤ 32) × (m ≤ 512)
 few n m h = neither (ltb most-processes n) (ltb most-events m) (not-below most-processes n) (not-below most-events m) .0 h
 
--- Room for as many answers as there are events need not be looked at.
+-- Room for as many answers and Lamport numbers as there are events need not be looked at.
 pub no-answers :
     (n m clocks masks values : ℕ) → (ltb most-processes n || ltb most-events m) ≡ false
     → not (ltb clocks (n * m) || ltb masks m || ltb values (n * m)) ≡ named n m clocks masks values
-no-answers n m clocks masks values h = rw (h, le-ltb m m (omega arith), or-false (ltb clocks (n * m) || ltb masks m || ltb values (n * m)))
+no-answers n m clocks masks values h =
+    let s = ltb clocks (n * m) || ltb masks m || ltb values (n * m) in
+    rw (h, le-ltb m m (omega arith), or-false (s || false), or-false s)
 
 module _ (n m : ℕ) (clocks masks values : List ℕ) where
   pub room : named n m (length clocks) (length masks) (length values) ≡ true → Tail n m 0 0 clocks masks values
   room h =
-      let (small, lent) = and-both (not (ltb most-processes n || ltb most-events m)) (not (scant n m (length clocks) (length masks) (length values) m)) h in
+      let (small, lent) = and-both (not (ltb most-processes n || ltb most-events m)) (not (scant n m (length clocks) (length masks) (length values) m m)) h in
       let (p, q) = few n m (not-true _ small) in
       let r =
-      neither (ltb (length clocks) (n * m) || ltb (length masks) m || ltb (length values) (n * m)) (ltb m m)
+      neither (ltb (length clocks) (n * m) || ltb (length masks) m || ltb (length values) (n * m) || ltb m m) (ltb m m)
+      (neither (ltb (length clocks) (n * m) || ltb (length masks) m || ltb (length values) (n * m)) (ltb m m)
       (neither (ltb (length clocks) (n * m) || ltb (length masks) m) (ltb (length values) (n * m))
       (neither (ltb (length clocks) (n * m)) (ltb (length masks) m) (not-below (length clocks) (n * m)) (not-below (length masks) m))
-      (not-below (length values) (n * m))) (not-below m m) .0 (not-true _ lent) in
-      record { few = p; short = q; accepted = omega arith; carried = omega arith; clock = r .0 .0 .0; mask = r .0 .0 .1; value = r .0 .1 }
+      (not-below (length values) (n * m))) (not-below m m)) (not-below m m) .0 (not-true _ lent) in
+      record { few = p; short = q; accepted = omega arith; carried = omega arith; clock = r .0 .0 .0 .0; mask = r .0 .0 .0 .1; value = r .0 .0 .1 }
 
   pub emptied :
       (clocks′ masks′ values′ : List ℕ) → named n m (length clocks) (length masks) (length values) ≡ true

@@ -43,7 +43,7 @@ passed-on {A} {B} r k a b f given w h =
     rw (ne-eqb (r .number) 0 z, ne-eqb (r .number) 0 z) (λ i. (refused (q i), p i))
 
 -- What was laid in named slots does not matter once they are set to 0.
-laid-again : (named : ℕ) (xs old : List ℕ) → length xs ≤ named → laid named [] (laid named xs old) ≡ laid named [] old
+pub laid-again : (named : ℕ) (xs old : List ℕ) → length xs ≤ named → laid named [] (laid named xs old) ≡ laid named [] old
 unfolding laid
 laid-again named xs old h =
     let zeros : List ℕ = replicate (named - length xs) 0 in

@@ -9,7 +9,7 @@ use Rattle.offers.specs.Early.{scant}
 
 -- Whether the slots that 9 names for m events of n processes are lent.
 abbrev pub named : ℕ → ℕ → ℕ → ℕ → ℕ → Bool
-named n m clocks masks values = not (ltb most-processes n || ltb most-events m) && not (scant n m clocks masks values m)
+named n m clocks masks values = not (ltb most-processes n || ltb most-events m) && not (scant n m clocks masks values m m)
 
 -- Room for m offers of n processes, of which k are accepted and carry v values.
 pub record Tail (n m k v : ℕ) (clocks masks values : List ℕ) : Type 0 where

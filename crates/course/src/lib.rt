@@ -9,7 +9,7 @@ ghost use Rattle.paper.specs.Class as paper;
 ghost use Rattle.paper.specs.Questions as questions;
 ghost use Rattle.paper.specs.Refusals.{of-call};
 ghost use Rattle.clock.specs.Said.{refusal};
-ghost use Rattle.course.specs.Said.{work, classed, judged, late};
+ghost use Rattle.course.specs.Said.{work, classed, judged, late, late-lamports};
 ghost use Rattle.course.specs.Slots.{named, Tail};
 use clock::Clock;
 use clock::Position;
@@ -77,19 +77,29 @@ pub fn clear(n: usize, m: usize, clocks: &mut [u16], masks: &mut [u32], values: 
     }
 }
 
-// Class mode: each offer of the list is tried, and the course goes on.
-pub fn class(
+// The same of the slots named for m Lamport numbers.
+pub fn clear_lamports(m: usize, lamports: &mut [u16])
+    ensures { λ _. ⌜ now (lamports .exit) ≡ late-lamports m (now (lamports .entry)) ⌝ }
+{
+    if m <= lamports.len() {
+        zero::clear16(lamports, 0, m);
+    }
+}
+
+// Class mode: each offer of the list is tried, and the course goes on; with the Lamport numbers of the accepted events.
+pub fn class_lamport(
     n: usize,
     list: &[u8],
     clocks: &mut [u16],
     masks: &mut [u32],
     values: &mut [u16],
     answers: &mut [u8],
+    lamports: &mut [u16],
 ) -> Classed
-    ensures { λ r. ⌜ (classed r, work (now (clocks .exit)) (now (masks .exit)) (now (values .exit)), now (answers .exit))
-        ≡ paper.class n (now (list .entry)) (work (now (clocks .entry)) (now (masks .entry)) (now (values .entry))) (now (answers .entry)) ⌝ }
+    ensures { λ r. ⌜ ((classed r, work (now (clocks .exit)) (now (masks .exit)) (now (values .exit)), now (answers .exit)), now (lamports .exit))
+        ≡ paper.class-lamport n (now (list .entry)) (work (now (clocks .entry)) (now (masks .entry)) (now (values .entry))) (now (answers .entry)) (now (lamports .entry)) ⌝ }
 {
-    let t = offers::course(false, n, list, clocks, masks, values, answers);
+    let t = offers::course(false, n, list, clocks, masks, values, answers, lamports);
     if t.number != 0 {
         return Classed::Refused(of_call(t.number));
     }
@@ -102,10 +112,59 @@ pub fn class(
         masks,
         values,
     );
+    zero::clear16(lamports, t.accepted, list.len() / 8);
     Classed::Done(t.accepted, t.carried)
 }
 
-// The strict course: the first refused event refuses the list.
+// Class mode where no Lamport numbers are asked for.
+pub fn class(
+    n: usize,
+    list: &[u8],
+    clocks: &mut [u16],
+    masks: &mut [u32],
+    values: &mut [u16],
+    answers: &mut [u8],
+) -> Classed
+    ensures { λ r. ⌜ (classed r, work (now (clocks .exit)) (now (masks .exit)) (now (values .exit)), now (answers .exit))
+        ≡ paper.class n (now (list .entry)) (work (now (clocks .entry)) (now (masks .entry)) (now (values .entry))) (now (answers .entry)) ⌝ }
+{
+    let mut lamports = [0u16; 512];
+    class_lamport(n, list, clocks, masks, values, answers, &mut lamports)
+}
+
+// The strict course: the first refused event refuses the list; with the Lamport numbers of an accepted one.
+pub fn strict_lamport(
+    n: usize,
+    list: &[u8],
+    clocks: &mut [u16],
+    masks: &mut [u32],
+    values: &mut [u16],
+    lamports: &mut [u16],
+) -> Judged
+    ensures { λ r. ⌜ ((judged r, work (now (clocks .exit)) (now (masks .exit)) (now (values .exit))), now (lamports .exit))
+        ≡ questions.strict-lamport n (now (list .entry)) (work (now (clocks .entry)) (now (masks .entry)) (now (values .entry))) (now (lamports .entry)) ⌝ }
+{
+    let mut answers = [0u8; 512];
+    let t = offers::course(true, n, list, clocks, masks, values, &mut answers, lamports);
+    if t.number != 0 {
+        return Judged::Refused(of_call(t.number));
+    }
+    let m = list.len() / 8;
+    if t.accepted == t.tried {
+        tidy(n, m, t.accepted, t.carried, clocks, masks, values);
+        zero::clear16(lamports, t.accepted, m);
+        return Judged::Done(t.carried);
+    }
+    tidy(n, m, 0, 0, clocks, masks, values);
+    zero::clear16(lamports, 0, m);
+    let at = t.tried - 1;
+    Judged::Refused(Refusal {
+        number: answers[at],
+        position: Position(at),
+    })
+}
+
+// The strict course where no Lamport numbers are asked for.
 pub fn strict(
     n: usize,
     list: &[u8],
@@ -116,20 +175,6 @@ pub fn strict(
     ensures { λ r. ⌜ (judged r, work (now (clocks .exit)) (now (masks .exit)) (now (values .exit)))
         ≡ questions.strict n (now (list .entry)) (work (now (clocks .entry)) (now (masks .entry)) (now (values .entry))) ⌝ }
 {
-    let mut answers = [0u8; 512];
-    let t = offers::course(true, n, list, clocks, masks, values, &mut answers);
-    if t.number != 0 {
-        return Judged::Refused(of_call(t.number));
-    }
-    let m = list.len() / 8;
-    if t.accepted == t.tried {
-        tidy(n, m, t.accepted, t.carried, clocks, masks, values);
-        return Judged::Done(t.carried);
-    }
-    tidy(n, m, 0, 0, clocks, masks, values);
-    let at = t.tried - 1;
-    Judged::Refused(Refusal {
-        number: answers[at],
-        position: Position(at),
-    })
+    let mut lamports = [0u16; 512];
+    strict_lamport(n, list, clocks, masks, values, &mut lamports)
 }

@@ -3,16 +3,18 @@ use Prim.Native.Nat.{ℕ}
 use mathlib.Core.Bool.{Bool, true, false, cond, false≢true}
 use mathlib.Core.List.{List}
 use mathlib.Core.Path.{_≡_, refl, sym, ap, _∙_, subst}
+use native.Mathlib.Omega.{arith}
 use borrow.Author.Tests.{eqb-true}
 use lib.Dec.{eqb}
 use lib.ListN.{length, replicate}
-use Rattle.paper.specs.Buffers.{Work, short, laid, entries, filled, after-call}
-use Rattle.paper.specs.Class.{Classed, class-number, class}
+use Rattle.paper.specs.Buffers.{Work, laid, entries, filled, after-call}
+use Rattle.paper.specs.Class.{Classed, wrong-list, class-number, class}
 use Rattle.paper.specs.Event.{how-many, events-of}
 use Rattle.paper.specs.Listing.{refusal-line}
 use Rattle.paper.specs.Machine.{Clocked, start, answers, clocked}
-use Rattle.paper.specs.Refusals.{Refusal, Outcome, refused, done}
-use Rattle.offers.proofs.Early.{Enough, enough}
+use Rattle.paper.specs.Reading.{wrong-count}
+use Rattle.paper.specs.Refusals.{first, Refusal, Outcome, refused, done}
+use Rattle.offers.proofs.Early.{count-fits, list-fits}
 use Rattle.lines.specs.Programs.{class-text, class-listing}
 use Rattle.lines.specs.Text.{Printed}
 use Rattle.lines.proofs.Faithful.{class-after}
@@ -39,9 +41,13 @@ abbrev text-after : ℕ → List ℕ → Outcome Classed × Work × List ℕ →
 text-after n list x = class-text n list (x .2) (x .1 .clocks) (x .1 .masks) (accepted-in (x .0)) (carried-in (x .0))
 
 module _ (n : ℕ) (list : List ℕ) (w : Work) (told : List ℕ) where
-  fits : class-number n list w told ≡ 0 → Enough n (length list) (length (w .clocks)) (length (w .masks)) (length (w .values)) (length told)
-  unfolding short
-  fits z = enough _ _ _ _ _ _ z
+  fits : class-number n list w told ≡ 0 → (wrong-count n ≡ false) × (wrong-list list ≡ false)
+  fits z = go (wrong-count n) (wrong-list list) _ z
+    where
+      go : (a b : Bool) (k : ℕ) → first a 4 (first b 8 k) ≡ 0 → (a ≡ false) × (b ≡ false)
+      go true b k z = let x : ⊥ = omega arith in absurd x
+      go false true k z = let x : ⊥ = omega arith in absurd x
+      go false false k z = (refl, refl)
 
   done-text : is-done (class n list w told .0) ≡ true → text-after n list (class n list w told) ≡ class-listing n list
   unfolding class after-call
@@ -56,7 +62,7 @@ module _ (n : ℕ) (list : List ℕ) (w : Work) (told : List ℕ) where
           is-done o ≡ true
           → text-after n list (o, cond b (filled n (how-many list) cs w) u, cond b (laid (how-many list) (answers n start (events-of list)) told) told)
           ≡ class-listing n list
-      go true z r u d = let e = fits (eqb-true _ _ z) in class-after n (e .few) list (e .brief) w told
+      go true z r u d = let (count, size) = fits (eqb-true _ _ z) in class-after n (count-fits n count .1) list (list-fits (length list) size .1) w told
       go false z r u d = absurd (false≢true d)
 
 -- A refusal's line, and the text over the slots that the call leaves.

@@ -5,23 +5,24 @@ use native.Mathlib.Omega.{arith}
 use mathlib.Core.Bool.{Bool, true, false, cond, _||_}
 use mathlib.Core.List.{List, [], _∷_}
 use mathlib.Core.Logic.{_≢_}
-use mathlib.Core.Path.{_≡_, refl, sym, _∙_, subst}
+use mathlib.Core.Path.{_≡_, refl, sym, ap, _∙_, subst}
 use lib.Dec.{eqb}
-use lib.ListN.{length, drop, replicate, length-take}
+use lib.ListN.{length, drop, replicate, length-take, length-replicate}
 use borrow.Author.Tests.{eqb-true}
 use Rattle.paper.specs.Buffers.{short}
 use Rattle.paper.specs.Class.{wrong-list, class-number, class}
 use Rattle.paper.specs.Event.{Event, how-many, events-of}
 use Rattle.paper.specs.Machine.{State, offered, shape, answer, answers, start, clocked}
 use Rattle.paper.specs.Questions.{list-refusal, comparing-refusal, comparing, chaining-refusal, chaining}
-use Rattle.paper.specs.Reading.{wrong-count, header-checks, first-refused, begins, stamps-refused, reading-refusal, reading}
+use Rattle.paper.specs.Reading.{wrong-count, header-checks, first-refused, begins, stamps-refused, reading-refusal, reading, reading-lamport}
 use Rattle.paper.specs.Refusals.{first, Refusal, of-call, _then_, refused, outcome}
 use Rattle.paper.specs.Sheet.{processes-in, list-offset, list-size, list-in, stamps-in, pieces}
 use Rattle.paper.proofs.Laws.Tables.{cond-cases}
 use Rattle.paper.proofs.Sheets.Header.{header-says}
-use Rattle.offers.proofs.Early.{early-class, early-list}
+use Rattle.offers.proofs.Early.{lent-512}
 use Rattle.course.proofs.Passed.{is-refused}
 use Rattle.sheet.proofs.Checks.{header-then}
+use Rattle.sheet.proofs.WithNumbers.{unasked}
 use Rattle.desk.specs.Answers.{ample, write-refusal, write-answer}
 use Rattle.desk.proofs.SheetOut.{roomy, never-scant, same-refusal}
 
@@ -80,7 +81,8 @@ module _ (n : ℕ) (list : List ℕ) where
 
   class-other : Other (class-number n list ample (replicate 512 0))
   class-other =
-      let same = sym (early-class n list ample (replicate 512 0)) ∙ early-list n list ample ∙ never-scant n list in
+      let same : class-number n list ample (replicate 512 0) ≡ first (wrong-count n) 4 (first (wrong-list list) 8 0) =
+      lent-512 n list (short n (how-many list) ample) ∙ never-scant n list in
       subst Other (sym same) (is-other _ (simp kept-first))
 
   comparing-other : (a b : ℕ) → Other (comparing-refusal n list ample a b .number)
@@ -123,6 +125,7 @@ module _ (b : List ℕ) where
 pub record NeverShort : Type 0 where
   pub classed : (n : ℕ) (list : List ℕ) (r : Refusal) → class n list ample (replicate 512 0) .0 ≡ refused r → Other (r .number)
   pub read : (b : List ℕ) (r : Refusal) → reading b ample .0 ≡ refused r → Other (r .number)
+  pub numbered : (b : List ℕ) (r : Refusal) → reading-lamport b ample (replicate 512 0) .0 .0 ≡ refused r → Other (r .number)
   pub compared : (n : ℕ) (list : List ℕ) (a b : ℕ) (r : Refusal) → comparing n list ample a b .0 ≡ refused r → Other (r .number)
   pub chained :
       (n : ℕ) (list : List ℕ) (a b : ℕ) (r : Refusal) → chaining n list ample a b (replicate 512 0) .0 ≡ refused r → Other (r .number)
@@ -134,6 +137,7 @@ never-short =
     record {
       classed = λ n list r. outcome-other _ _ (class-other n list) r;
       read = λ b r. outcome-other _ _ (reading-other b) r;
+      numbered = λ b r e. outcome-other _ _ (reading-other b) r (sym (ap (λ x. x .0) (unasked b ample (replicate 512 0) (length-replicate {A = ℕ} 512 0))) ∙ e);
       compared = λ n list a b r. outcome-other _ _ (comparing-other n list a b) r;
       chained = λ n list a b r. outcome-other _ _ (chaining-other n list a b) r;
       written = λ n list r. outcome-other _ _ (write-other n list) r;

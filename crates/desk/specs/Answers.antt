@@ -6,10 +6,10 @@ use Rattle.paper.specs.Buffers.{Work}
 use Rattle.paper.specs.Chain.{chain}
 use Rattle.paper.specs.Class.{wrong-list, class}
 use Rattle.paper.specs.Event.{events-of}
-use Rattle.paper.specs.Listing.{listing, refusal-line}
+use Rattle.paper.specs.Listing.{listing, lamport-listing, refusal-line}
 use Rattle.paper.specs.Machine.{start, answers, clocked}
 use Rattle.paper.specs.Questions.{comparing, chaining}
-use Rattle.paper.specs.Reading.{wrong-count, first-refused, reading}
+use Rattle.paper.specs.Reading.{wrong-count, first-refused, reading, reading-lamport}
 use Rattle.paper.specs.Refusals.{first, Refusal, of-call, _then_, Outcome, refused, done, outcome}
 use Rattle.paper.specs.Sheet.{written}
 use Rattle.lines.specs.Programs.{verdict-line, chain-line, class-listing}
@@ -30,6 +30,10 @@ class-answer n list = text-of (λ k. class-listing n list) (class n list ample (
 -- `listing`.
 unfoldable pub listing-answer : List ℕ → List ℕ
 listing-answer b = text-of (λ r. listing (r .processes) (r .list)) (reading b ample .0)
+
+-- `listing lamport`.
+unfoldable pub listing-lamport-answer : List ℕ → List ℕ
+listing-lamport-answer b = text-of (λ r. lamport-listing (r .processes) (r .list)) (reading-lamport b ample (replicate 512 0) .0 .0)
 
 -- The verdict on two events of a list, and the chain from one to the other.
 unfoldable pub verdict-said : ℕ → List ℕ → ℕ → ℕ → List ℕ

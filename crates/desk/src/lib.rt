@@ -1,6 +1,6 @@
 // What the programs answer: the whole text for a whole input, over work buffers that are always large enough.
 ghost use Rattle.lines.specs.Text.{Printed};
-ghost use Rattle.desk.specs.Answers.{class-answer, listing-answer, verdict-said, chain-said, compare-answer, chain-answer, write-answer};
+ghost use Rattle.desk.specs.Answers.{class-answer, listing-answer, listing-lamport-answer, verdict-said, chain-said, compare-answer, chain-answer, write-answer};
 ghost use Rattle.desk.specs.Said.{Stands};
 use clock::Position;
 use course::Classed;
@@ -47,6 +47,33 @@ pub fn listing_answer(sheet: &[u8], out: &mut [u8; PAGE]) -> usize
             let from = c.offset;
             let list = &sheet[from..from + c.size];
             lines::listing_text(c.processes, list, &clocks, &masks, c.carried, out)
+        }
+    }
+}
+
+// What `listing lamport` prints of a sheet.
+pub fn listing_lamport_answer(sheet: &[u8], out: &mut [u8; PAGE]) -> usize
+    ensures { λ r. ⌜ Printed (now (out .entry)) (listing-lamport-answer (now (sheet .entry))) r (now (out .exit)) ⌝ }
+{
+    let mut clocks = [0u16; 16384];
+    let mut masks = [0u32; 512];
+    let mut values = [0u16; 16384];
+    let mut numbers = [0u16; 512];
+    let r = sheet::read_lamport(sheet, &mut clocks, &mut masks, &mut values, &mut numbers);
+    match r {
+        Reading::Refused(r) => lines::refusal_text(r, out),
+        Reading::Accepted(c) => {
+            let from = c.offset;
+            let list = &sheet[from..from + c.size];
+            lines::listing_lamport_text(
+                c.processes,
+                list,
+                &clocks,
+                &masks,
+                &numbers,
+                c.carried,
+                out,
+            )
         }
     }
 }
@@ -175,6 +202,27 @@ pub fn positions() -> Pair {
         return Pair::Missing;
     };
     Pair::Of(first, second)
+}
+
+// Which listing is asked for: no argument, the one word `lamport`, or something else.
+pub enum Wanted {
+    Plain,
+    Lamport,
+    Unknown,
+}
+
+pub fn listing_wanted() -> Wanted {
+    let count = os::arg_count();
+    if count < 2 {
+        return Wanted::Plain;
+    }
+    // A longer word is 0 bytes long here.
+    let mut word = [0u8; 7];
+    let n = os::arg(1, &mut word);
+    if (count == 2) & check::same(&word[..n], b"lamport") {
+        return Wanted::Lamport;
+    }
+    Wanted::Unknown
 }
 
 // The first bytes of a page. No text is longer than a page, as its promise says.

@@ -1,32 +1,34 @@
 -- The texts over lent slots say what the paper says of the list, where the slots begin as every call leaves them: the listing's text is the
--- paper's listing, the class text has the line of the right event for every offer, and the chain's text is the chain.
+-- paper's listing, with Lamport numbers or without, the class text has the line of the right event for every offer, and the chain's text is the chain.
 use Prim.Native.Nat.{ℕ, zero, suc, _+_, _-_, _*_, _≤_, _<_}
 use mathlib.Core.Path.{_≡_, refl, sym, ap, _∙_}
 use mathlib.Core.Bool.{Bool, true, false, cond}
 use mathlib.Core.Logic.{⊎-elim}
 use mathlib.Core.List.{List, [], _∷_, _++_, flatMap, append-nil, append-assoc}
-use native.Mathlib.Nat.{add-zero, zero-add, add-suc, suc-add, add-assoc, mul-suc, mul-zero, eq-or-lt-of-le, le-of-suc-le-suc}
+use native.Mathlib.Nat.{zero-add, add-assoc, mul-suc, mul-zero, eq-or-lt-of-le, le-of-suc-le-suc}
 use native.Mathlib.Numerals.{add-one, one-add}
 use native.Mathlib.Omega.{arith}
 use borrow.Author.Tests.{eq-eqb, eqb-true, le-leb}
 use lib.Dec.{eqb}
 use lib.ListN.{length, getD, take, drop, replicate, length-replicate, getD-replicate, length-append, length-map, List·getD-append}
-use lib.Seq.{length-take-le, take-at, take-append-seam, getD-at, drop-append-add}
+use lib.Seq.{length-take-le, take-at, take-append-seam, getD-at, drop-append-add, drop-cons, drop-length}
 use Rattle.paper.specs.Buffers.{Work, laid, clock-slots, mask-slots, entries, filled}
 use Rattle.paper.specs.Bytes.{byte}
 use Rattle.paper.specs.Clock.{Clock}
 use Rattle.paper.specs.Event.{Event, event-at, first-events, how-many, events-of}
-use Rattle.paper.specs.Listing.{event-line, event-lines, head-line, listing}
+use Rattle.paper.specs.Lamport.{no-scalars, lamports}
+use Rattle.paper.specs.Listing.{word, event-words, event-line, event-lines, lamport-line, lamport-lines, head-line, listing, lamport-listing}
 use Rattle.paper.specs.Machine.{State, Clocked, start, answer, offered, answers, clocked}
 use Rattle.paper.specs.Order.{clock-of, event-of, nothing}
 use Rattle.paper.specs.Stamp.{Stamp, no-stamp, never-sent, previous, stamps-after, stamps}
+use Rattle.paper.proofs.LamportBelow.Lists.{length-lamports}
 use Rattle.paper.proofs.Laws.Append.{length-answers}
 use Rattle.paper.proofs.Laws.Runs.{length-events}
 use Rattle.paper.proofs.Sizes.{sized}
 use Rattle.lines.specs.Programs.{chain-line, chain-text, accepted-of, refused-line, offer-line, class-text, class-line, class-head, class-listing}
-use Rattle.lines.specs.Slots.{slot-line, listing-text}
+use Rattle.lines.specs.Slots.{slot-words, last-field, slot-line, numbered-text, listing-text, listing-lamport-text}
 use Rattle.lines.specs.Text.{each}
-use Rattle.lines.proofs.Slots.{Fitting, fitted}
+use Rattle.lines.proofs.Slots.{number-there, number-none, Fitting, fitted}
 
 each-same : (f g : ℕ → List ℕ) (k : ℕ) → ((i : ℕ) → i < k → f i ≡ g i) → each f k ≡ each g k
 unfolding each
@@ -89,11 +91,19 @@ module _ (n : ℕ) where
       one-more true x cs = one-add (length cs)
       one-more false x cs = zero-add (length cs)
 
-same-line :
+same-words :
     (n i : ℕ) (c d : Clocked) (t u : Stamp) → c .event ≡ d .event → take n (c .clock) ≡ take n (d .clock) → t .mask ≡ u .mask
-    → event-line n i c t ≡ event-line n i d u
-unfolding event-line
-same-line n i c d t u e v m = rw (e, v, m)
+    → event-words n i c t ≡ event-words n i d u
+unfolding event-words
+same-words n i c d t u e v m = rw (e, v, m)
+
+-- The last field: none where no numbers are lent; and number a of those that are.
+no-number : (a : ℕ) → last-field [] a ≡ []
+no-number a = sym (number-none [] a (omega arith))
+
+own-number : (xs more : List ℕ) (a : ℕ) → a < length xs → last-field (xs ++ more) a ≡ word (getD xs a 0)
+own-number xs more a h =
+    sym (number-there (xs ++ more) a (omega (arith, length-append xs more)) (sym (List·getD-append xs more 0 a h)))
 
 length-stamps : (last : ℕ → ℕ → Clock) (cs : List Clocked) → length (stamps-after last cs) ≡ length cs
 unfolding stamps-after
@@ -133,21 +143,16 @@ mask-there more [] a h = absurd (omega arith)
 mask-there more (t ∷ ts) zero h = refl
 mask-there more (t ∷ ts) (suc a) h = mask-there more ts a (omega arith)
 
--- Event lines one by one.
-lines-each :
-    (n : ℕ) (f : ℕ → List ℕ) (cs : List Clocked) (ts : List Stamp) (i : ℕ) → length ts ≡ length cs
-    → ((a : ℕ) → a < length cs → event-line n (i + a) (getD cs a nothing) (getD ts a no-stamp) ≡ f (i + a))
-    → each f i ++ event-lines n i cs ts ≡ each f (i + length cs)
-unfolding each event-lines
-lines-each n f [] ts i e h = append-nil (each f i) ∙ ap (each f) (sym (add-zero i))
-lines-each n f (c ∷ cs) [] i e h = absurd (omega arith)
-lines-each n f (c ∷ cs) (t ∷ ts) i e h =
-    let here : event-line n i c t ≡ f i = rw add-zero at (h 0 (omega arith)) in
-    let turn : (k : ℕ) → i + suc k ≡ suc i + k = λ k. add-suc i k ∙ sym (suc-add i k) in
-    ap (λ (l : List ℕ). each f i ++ (l ++ event-lines n (suc i) cs ts)) here
-    ∙ sym (append-assoc (each f i) (f i) (event-lines n (suc i) cs ts))
-    ∙ lines-each n f cs ts (suc i) (omega arith) (λ a l. rw turn at (h (suc a) (omega arith)))
-    ∙ ap (each f) (sym (turn (length cs)))
+-- Lines one by one, where `rest i` are those from i on.
+module _ (f rest : ℕ → List ℕ) where
+  lines-from : (k : ℕ) → ((i : ℕ) → i < k → rest i ≡ f i ++ rest (suc i)) → rest 0 ≡ each f k ++ rest k
+  unfolding each
+  lines-from zero h = refl
+  lines-from (suc k) h =
+      lines-from k (λ i l. h i (omega arith)) ∙ ap (λ (l : List ℕ). each f k ++ l) (h k (omega arith)) ∙ sym (append-assoc (each f k) (f k) (rest (suc k)))
+
+  lines-each : (k : ℕ) → ((i : ℕ) → i < k → rest i ≡ f i ++ rest (suc i)) → rest k ≡ [] → each f k ≡ rest 0
+  lines-each k h e = sym (lines-from k h ∙ ap (λ (l : List ℕ). each f k ++ l) e ∙ append-nil (each f k))
 
 module _ (n : ℕ) (few : n ≤ 32) (list : List ℕ) where
   abbrev es : List Event
@@ -164,15 +169,20 @@ module _ (n : ℕ) (few : n ≤ 32) (list : List ℕ) where
 
   module _ (clocks masks more-clocks more-masks : List ℕ) (timed : clocks ≡ clock-slots n cs ++ more-clocks) (stamped : masks ≡ mask-slots (stamps cs) ++ more-masks) where
     -- The line over the slots of an accepted offer.
-    line-there : (i : ℕ) → i < how-many list → byte rs i ≡ 0 → let a = accepted-of rs i in
-        event-line n i (getD cs a nothing) (getD (stamps cs) a no-stamp) ≡ slot-line n list clocks masks i a
-    unfolding slot-line
-    line-there i h z =
+    words-there : (i : ℕ) → i < how-many list → byte rs i ≡ 0 → let a = accepted-of rs i in
+        event-words n i (getD cs a nothing) (getD (stamps cs) a no-stamp) ≡ slot-words n list clocks masks i a
+    unfolding slot-words
+    words-there i h z =
         let f = found n es start i (omega (arith, length-events (how-many list) list)) z in
-        same-line n i _ _ _ _
+        same-words n i _ _ _ _
         (f .same ∙ events-at (how-many list) list i h)
         (rw timed (sym (clock-there n more-clocks cs long _ (f .there))))
         (rw stamped (sym (mask-there more-masks (stamps cs) _ (omega (arith, f .there, length-stamps never-sent cs)))))
+
+    line-there : (i : ℕ) → i < how-many list → byte rs i ≡ 0 → let a = accepted-of rs i in
+        event-line n i (getD cs a nothing) (getD (stamps cs) a no-stamp) ≡ slot-line n list clocks masks [] i a
+    unfolding event-line slot-line
+    line-there i h z = rw (words-there i h z, no-number (accepted-of rs i), append-nil)
 
     -- Where every answer is 0.
     module _ (short : length list ≤ 4096) (zeros : rs ≡ replicate (length es) 0) where
@@ -199,20 +209,46 @@ module _ (n : ℕ) (few : n ≤ 32) (list : List ℕ) where
                 );
           }
 
-      own-line : (i : ℕ) → i < length cs → event-line n i (getD cs i nothing) (getD (stamps cs) i no-stamp) ≡ slot-line n list clocks masks i i
-      own-line i h =
+      own-words : (i : ℕ) → i < length cs → event-words n i (getD cs i nothing) (getD (stamps cs) i no-stamp) ≡ slot-words n list clocks masks i i
+      own-words i h =
           let l : i < how-many list = omega (arith, all-there) in
           let z : byte rs i ≡ 0 = ap (λ (x : List ℕ). byte x i) zeros ∙ getD-replicate {A = ℕ} (length es) i 0 0 (omega (arith, length-events (how-many list) list)) in
-          rw (each-own i (omega arith)) at (line-there i l z)
+          rw (each-own i (omega arith)) at (words-there i l z)
+
+      -- The lines from i on are those of what is left of the lists.
+      module _ (numbers : List ℕ) (rest : ℕ → List ℕ) where
+        abbrev line : ℕ → List ℕ
+        line i = slot-line n list clocks masks numbers i i
+
+        text-is :
+            ((i : ℕ) → i < length cs → rest i ≡ line i ++ rest (suc i)) → rest (length cs) ≡ []
+            → numbered-text n list clocks masks numbers (entries cs) ≡ head-line (length cs) n (entries cs) ++ rest 0
+        unfolding numbered-text
+        text-is h e =
+            rw (fitted slots-fit)
+            (ap (λ (k : ℕ). head-line k n (entries cs) ++ each line k) (sym all-there)
+            ∙ ap (λ (l : List ℕ). head-line (length cs) n (entries cs) ++ l) (lines-each line rest (length cs) h e))
+
+      left : (i : ℕ) → i < length cs → drop i (stamps cs) ≡ getD (stamps cs) i no-stamp ∷ drop (suc i) (stamps cs)
+      left i h = drop-cons (stamps cs) i no-stamp (omega (arith, length-stamps never-sent cs))
 
       pub listing-is : listing-text n list clocks masks (entries cs) ≡ listing n list
-      unfolding listing-text listing each
+      unfolding listing event-lines event-line slot-line
       listing-is =
-          let line : ℕ → List ℕ = λ i. slot-line n list clocks masks i i in
-          let lines = lines-each n line cs (stamps cs) 0 (length-stamps never-sent cs) (λ a h. rw zero-add (own-line a h)) in
-          rw (fitted slots-fit)
-          (ap (λ (k : ℕ). head-line k n (entries cs) ++ each line k) (sym all-there)
-          ∙ ap (λ (l : List ℕ). head-line (length cs) n (entries cs) ++ l) (ap (each line) (sym (zero-add (length cs))) ∙ sym lines))
+          text-is [] (λ i. event-lines n i (drop i cs) (drop i (stamps cs)))
+          (λ i h. rw (drop-cons cs i nothing h, left i h, own-words i h, no-number i, append-nil))
+          (rw (drop-length cs))
+
+      pub lamport-is : (numbers more : List ℕ) → numbers ≡ lamports cs ++ more → listing-lamport-text n list clocks masks numbers (entries cs) ≡ lamport-listing n list
+      unfolding listing-lamport-text lamport-listing lamport-lines lamport-line slot-line
+      lamport-is numbers more told =
+          let many : length (lamports cs) ≡ length cs = length-lamports cs no-scalars in
+          let enough : how-many list ≤ length numbers = omega (arith, ap length told, length-append (lamports cs) more, many, all-there) in
+          rw (le-leb _ _ enough)
+          (text-is numbers (λ i. lamport-lines n i (drop i cs) (drop i (stamps cs)) (drop i (lamports cs)))
+          (λ i h. let l : i < length (lamports cs) = omega (arith, many) in
+          rw (drop-cons cs i nothing h, left i h, drop-cons (lamports cs) i 0 l, own-words i h, told, own-number (lamports cs) more i l))
+          (rw (drop-length cs)))
 
     -- Where the answers too stand in lent slots.
     module _ (lent more-answers : List ℕ) (answered : lent ≡ rs ++ more-answers) (fit : Fitting n list clocks masks) where
@@ -225,7 +261,7 @@ module _ (n : ℕ) (few : n ≤ 32) (list : List ℕ) where
           rw (as-answered i h, accepted-same lent rs i (λ k l. as-answered k (omega arith))) (go (eqb (byte rs i) 0) refl)
         where
           go : (b : Bool) → eqb (byte rs i) 0 ≡ b → let a = accepted-of rs i in
-              cond b (slot-line n list clocks masks i a) (refused-line i (byte rs i))
+              cond b (slot-line n list clocks masks [] i a) (refused-line i (byte rs i))
               ≡ cond b (event-line n i (getD cs a nothing) (getD (stamps cs) a no-stamp)) (refused-line i (byte rs i))
           go true e = sym (line-there i h (eqb-true (byte rs i) 0 e))
           go false e = refl
@@ -263,6 +299,12 @@ module _ (n : ℕ) (few : n ≤ 32) (list : List ℕ) (short : length list ≤ 4
       → listing-text n list (after .clocks) (after .masks) (entries (clocked n start (events-of list))) ≡ listing n list
   unfolding filled
   listing-after zeros = listing-is n few list _ _ _ _ (laid-begins _ _ _) (laid-begins _ _ _) short zeros
+
+  pub lamport-after :
+      (numbers : List ℕ) → answers n start (events-of list) ≡ replicate (length (events-of list)) 0 → let cs = clocked n start (events-of list) in
+      listing-lamport-text n list (after .clocks) (after .masks) (laid (how-many list) (lamports cs) numbers) (entries cs) ≡ lamport-listing n list
+  unfolding filled
+  lamport-after numbers zeros = lamport-is n few list _ _ _ _ (laid-begins _ _ _) (laid-begins _ _ _) short zeros _ _ (laid-begins _ _ numbers)
 
   pub class-after :
       (old : List ℕ) → let cs = clocked n start (events-of list) in

@@ -1,18 +1,18 @@
--- The line of an event from its parts as the code puts them, and what it says that the slots fit.
+-- What the line of an event says from its parts as the code puts them, and what it says that the slots fit.
 use Prim.Native.Nat.{ℕ, _+_, _*_, _≤_, _<_}
 use mathlib.Core.Path.{_≡_, refl}
 use mathlib.Core.Bool.{Bool, true, false, cond}
 use mathlib.Core.List.{List, [], _∷_, _++_, append-assoc, flatMap}
 use native.Mathlib.Nat.{mul-suc, mul-le-mul-left}
 use native.Mathlib.Omega.{arith}
-use borrow.Author.Tests.{leb-true, le-leb}
+use borrow.Author.Tests.{leb-true, le-leb, lt-ltb, le-ltb}
 use lib.Dec.{eqb}
 use lib.ListN.{length, getD, take, drop}
 use Rattle.paper.specs.Bytes.{byte, text}
 use Rattle.paper.specs.Event.{Event, event-at, how-many}
-use Rattle.paper.specs.Listing.{decimal, word, words, letter, event-line}
+use Rattle.paper.specs.Listing.{decimal, word, words, letter, event-words}
 use Rattle.paper.proofs.Laws.Tests.{and-both}
-use Rattle.lines.specs.Slots.{kind-letter, event-fields, slot-line, fitting}
+use Rattle.lines.specs.Slots.{kind-letter, event-fields, slot-words, last-field, fitting}
 
 letter-is : (e : Event) → kind-letter (e .kind) ∷ [] ≡ letter e
 unfolding kind-letter text
@@ -32,11 +32,20 @@ fields-are list i k p q l h =
     let five : 8 * i + 5 ≡ 8 * i + 4 + 1 = omega arith in
     rw (k, p, q, l, h, five, letter-is (event-at list (8 * i))) (simp append-assoc)
 
-pub line-is :
+pub words-are :
     (n : ℕ) (list clocks masks : List ℕ) (i a : ℕ) {mask many : ℕ} → mask ≡ getD masks a 0 → many ≡ n
-    → event-fields i (event-at list (8 * i)) ++ (word mask ++ words (take many (drop (n * a) clocks)) ++ text "\n") ≡ slot-line n list clocks masks i a
-unfolding event-fields slot-line event-line words flatMap
-line-is n list clocks masks i a e f = rw (e, f) (simp append-assoc)
+    → event-fields i (event-at list (8 * i)) ++ (word mask ++ words (take many (drop (n * a) clocks))) ≡ slot-words n list clocks masks i a
+unfolding event-fields slot-words event-words words flatMap
+words-are n list clocks masks i a e f = rw (e, f) (simp append-assoc)
+
+-- The last field, where number a is lent and where it is not.
+pub number-there : (numbers : List ℕ) (a : ℕ) {x : ℕ} → a < length numbers → x ≡ getD numbers a 0 → word x ≡ last-field numbers a
+unfolding last-field
+number-there numbers a h e = rw (lt-ltb a (length numbers) h, e)
+
+pub number-none : (numbers : List ℕ) (a : ℕ) → length numbers ≤ a → [] ≡ last-field numbers a
+unfolding last-field
+number-none numbers a h = rw (le-ltb a (length numbers) h)
 
 -- The slots of clock a end before those of clock m begin.
 pub slots-end : (n a m : ℕ) → a < m → n * a + n ≤ n * m

@@ -43,7 +43,7 @@ refused-line p r = decimal p ++ text " refused" ++ word r ++ text "\n"
 
 -- A line for the offer at i: as in the listing where it is accepted, `P refused R` where it is not.
 unfoldable pub offer-line : ℕ → List ℕ → List ℕ → List ℕ → List ℕ → ℕ → List ℕ
-offer-line n list rs clocks masks i = cond (eqb (byte rs i) 0) (slot-line n list clocks masks i (accepted-of rs i)) (refused-line i (byte rs i))
+offer-line n list rs clocks masks i = cond (eqb (byte rs i) 0) (slot-line n list clocks masks [] i (accepted-of rs i)) (refused-line i (byte rs i))
 
 -- The head line and a line for each offer in order; nothing where the slots do not fit.
 unfoldable pub class-text : ℕ → List ℕ → List ℕ → List ℕ → List ℕ → ℕ → ℕ → List ℕ

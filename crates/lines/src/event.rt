@@ -7,7 +7,7 @@ ghost use Rattle.paper.specs.Bytes.{byte, text};
 ghost use Rattle.paper.specs.Event.{event-at};
 ghost use Rattle.paper.specs.Listing.{decimal, word, words};
 ghost use Rattle.lines.specs.Text.{Appended};
-ghost use Rattle.lines.specs.Slots.{kind-letter, event-fields, slot-line};
+ghost use Rattle.lines.specs.Slots.{kind-letter, event-fields, slot-words, last-field, slot-line};
 use crate::text;
 
 pub(crate) fn wide(x: u8) -> usize
@@ -87,14 +87,44 @@ fn put_fields(out: &mut [u8], at: usize, list: &[u8], i: usize) -> usize
     put_three(out, k, process, peer, message)
 }
 
-// The mask and the components, to the line's end.
+// The mask and the components.
 fn put_stamp(out: &mut [u8], at: usize, mask: usize, parts: &[u16]) -> usize
-    requires { ⌜ (at + 700 ≤ 2 ^ 32) × (length (now parts) ≤ 32) ⌝ }
-    ensures { λ r. ⌜ Appended (now (out .entry)) at (word mask ++ words (now (parts .entry)) ++ text "\n") r (now (out .exit)) × (r ≤ at + 700) ⌝ }
+    requires { ⌜ (at + 693 ≤ 2 ^ 32) × (length (now parts) ≤ 32) ⌝ }
+    ensures { λ r. ⌜ Appended (now (out .entry)) at (word mask ++ words (now (parts .entry))) r (now (out .exit)) × (r ≤ at + 693) ⌝ }
 {
     let a = text::put_word(out, at, mask);
-    let b = text::put_words(out, a, parts);
-    text::put(out, b, b'\n')
+    text::put_words(out, a, parts)
+}
+
+// What the line of the event at position i says before its last field, a events accepted before it.
+fn put_event_words(
+    out: &mut [u8],
+    at: usize,
+    n: usize,
+    list: &[u8],
+    i: usize,
+    clocks: &[u16],
+    masks: &[u32],
+    a: usize,
+) -> usize
+    requires { ⌜ (at + 778 ≤ 2 ^ 32) × (i ≤ 512) × (n ≤ 32) × (n * a + n ≤ length (now clocks)) ⌝ }
+    ensures { λ r. ⌜ Appended (now (out .entry)) at (slot-words n (now (list .entry)) (now (clocks .entry)) (now (masks .entry)) i a) r (now (out .exit)) × (r ≤ at + 778) ⌝ }
+{
+    let from = n * a;
+    let end = from + n;
+    let k = put_fields(out, at, list, i);
+    put_stamp(out, k, mask_at(masks, a), &clocks[from..end])
+}
+
+// The last field: number a, where it is lent.
+fn put_last(out: &mut [u8], at: usize, numbers: &[u16], a: usize) -> usize
+    requires { ⌜ at + 21 ≤ 2 ^ 32 ⌝ }
+    ensures { λ r. ⌜ Appended (now (out .entry)) at (last-field (now (numbers .entry)) a) r (now (out .exit)) × (r ≤ at + 21) ⌝ }
+{
+    if a < numbers.len() {
+        return text::put_word(out, at, text::wide(numbers[a]));
+    }
+    at
 }
 
 // The line of the event at position i, a events accepted before it.
@@ -106,13 +136,13 @@ pub(crate) fn put_event(
     i: usize,
     clocks: &[u16],
     masks: &[u32],
+    numbers: &[u16],
     a: usize,
 ) -> usize
     requires { ⌜ (at + 800 ≤ 2 ^ 32) × (i ≤ 512) × (n ≤ 32) × (n * a + n ≤ length (now clocks)) ⌝ }
-    ensures { λ r. ⌜ Appended (now (out .entry)) at (slot-line n (now (list .entry)) (now (clocks .entry)) (now (masks .entry)) i a) r (now (out .exit)) × (r ≤ at + 800) ⌝ }
+    ensures { λ r. ⌜ Appended (now (out .entry)) at (slot-line n (now (list .entry)) (now (clocks .entry)) (now (masks .entry)) (now (numbers .entry)) i a) r (now (out .exit)) × (r ≤ at + 800) ⌝ }
 {
-    let from = n * a;
-    let end = from + n;
-    let k = put_fields(out, at, list, i);
-    put_stamp(out, k, mask_at(masks, a), &clocks[from..end])
+    let k = put_event_words(out, at, n, list, i, clocks, masks, a);
+    let last = put_last(out, k, numbers, a);
+    text::put(out, last, b'\n')
 }

@@ -3,7 +3,7 @@ ghost use mathlib.Core.Path.{_≡_};
 ghost use Rattle.paper.specs.Listing.{refusal-line};
 ghost use Rattle.clock.specs.Said.{number, refusal};
 ghost use Rattle.lines.specs.Text.{Printed};
-ghost use Rattle.lines.specs.Slots.{listing-text};
+ghost use Rattle.lines.specs.Slots.{listing-text, listing-lamport-text};
 ghost use Rattle.lines.specs.Programs.{verdict-line, chain-text, class-text};
 
 mod event;
@@ -22,11 +22,25 @@ pub fn listing_text(
 ) -> usize
     ensures { λ r. ⌜ Printed (now (out .entry)) (listing-text n (now (list .entry)) (now (clocks .entry)) (now (masks .entry)) carried) r (now (out .exit)) ⌝ }
 {
-    if !listing::fits(n, list, clocks, masks) {
+    listing::put_listing(n, list, clocks, masks, &[], carried, out)
+}
+
+// The same with the Lamport numbers that stand in the slots lent for them.
+pub fn listing_lamport_text(
+    n: usize,
+    list: &[u8],
+    clocks: &[u16],
+    masks: &[u32],
+    lamports: &[u16],
+    carried: usize,
+    out: &mut [u8],
+) -> usize
+    ensures { λ r. ⌜ Printed (now (out .entry)) (listing-lamport-text n (now (list .entry)) (now (clocks .entry)) (now (masks .entry)) (now (lamports .entry)) carried) r (now (out .exit)) ⌝ }
+{
+    if lamports.len() < list.len() / 8 {
         return 0;
     }
-    let k = listing::put_head(out, list.len() / 8, n, carried);
-    listing::put_events(out, k, n, list, clocks, masks)
+    listing::put_listing(n, list, clocks, masks, lamports, carried, out)
 }
 
 // The line of a refusal.

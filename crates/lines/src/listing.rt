@@ -4,8 +4,8 @@ ghost use mathlib.Core.Bool.{true};
 ghost use Prim.Native.Nat.{_+_, _≤_};
 ghost use Rattle.paper.specs.Event.{how-many};
 ghost use Rattle.paper.specs.Listing.{head-line};
-ghost use Rattle.lines.specs.Text.{Appended, each};
-ghost use Rattle.lines.specs.Slots.{slot-line, fitting};
+ghost use Rattle.lines.specs.Text.{Appended, Printed, each};
+ghost use Rattle.lines.specs.Slots.{slot-line, fitting, numbered-text};
 use crate::event;
 use crate::text;
 
@@ -22,7 +22,7 @@ pub(crate) fn fits(n: usize, list: &[u8], clocks: &[u16], masks: &[u32]) -> bool
     (n * m <= clocks.len()) & (m <= masks.len())
 }
 
-pub(crate) fn put_head(out: &mut [u8], m: usize, n: usize, carried: usize) -> usize
+fn put_head(out: &mut [u8], m: usize, n: usize, carried: usize) -> usize
     ensures { λ r. ⌜ Appended (now (out .entry)) 0 (head-line m n carried) r (now (out .exit)) × (r ≤ 100) ⌝ }
 {
     let a = text::put_named(out, 0, b"events", m);
@@ -31,23 +31,43 @@ pub(crate) fn put_head(out: &mut [u8], m: usize, n: usize, carried: usize) -> us
     text::put(out, c, b'\n')
 }
 
-pub(crate) fn put_events(
+fn put_events(
     out: &mut [u8],
     at: usize,
     n: usize,
     list: &[u8],
     clocks: &[u16],
     masks: &[u32],
+    numbers: &[u16],
 ) -> usize
     requires { ⌜ (at ≤ 1000) × (fitting n (now list) (now clocks) (now masks) ≡ true) ⌝ }
-    ensures { λ r. ⌜ Appended (now (out .entry)) at (each (λ i. slot-line n (now (list .entry)) (now (clocks .entry)) (now (masks .entry)) i i) (how-many (now (list .entry)))) r (now (out .exit)) × (r ≤ at + 409600) ⌝ }
+    ensures { λ r. ⌜ Appended (now (out .entry)) at (each (λ i. slot-line n (now (list .entry)) (now (clocks .entry)) (now (masks .entry)) (now (numbers .entry)) i i) (how-many (now (list .entry)))) r (now (out .exit)) × (r ≤ at + 409600) ⌝ }
 {
     let m = list.len() / 8;
     let mut k = at;
     let mut i = 0;
     while i < m {
-        k = event::put_event(out, k, n, list, i, clocks, masks, i);
+        k = event::put_event(out, k, n, list, i, clocks, masks, numbers, i);
         i += 1;
     }
     k
+}
+
+// The listing of an accepted list, each line with its event's number where one is lent.
+pub(crate) fn put_listing(
+    n: usize,
+    list: &[u8],
+    clocks: &[u16],
+    masks: &[u32],
+    numbers: &[u16],
+    carried: usize,
+    out: &mut [u8],
+) -> usize
+    ensures { λ r. ⌜ Printed (now (out .entry)) (numbered-text n (now (list .entry)) (now (clocks .entry)) (now (masks .entry)) (now (numbers .entry)) carried) r (now (out .exit)) ⌝ }
+{
+    if !fits(n, list, clocks, masks) {
+        return 0;
+    }
+    let k = put_head(out, list.len() / 8, n, carried);
+    put_events(out, k, n, list, clocks, masks, numbers)
 }

@@ -1,6 +1,7 @@
 // Pieces of what the programs beyond the paper print.
 ghost use mathlib.Core.Path.{_≡_};
 ghost use mathlib.Core.Bool.{true, cond};
+ghost use mathlib.Core.List.{[]};
 ghost use Prim.Native.Nat.{_+_, _*_, _^_, _≤_};
 ghost use lib.Dec.{eqb};
 ghost use lib.ListN.{length};
@@ -73,10 +74,10 @@ fn put_offer(
     a: usize,
 ) -> usize
     requires { ⌜ (at + 800 ≤ 2 ^ 32) × (i ≤ 512) × (n ≤ 32) × (n * a + n ≤ length (now clocks)) ⌝ }
-    ensures { λ r. ⌜ Appended (now (out .entry)) at (cond (eqb answer 0) (slot-line n (now (list .entry)) (now (clocks .entry)) (now (masks .entry)) i a) (refused-line i answer)) r (now (out .exit)) × (r ≤ at + 800) ⌝ }
+    ensures { λ r. ⌜ Appended (now (out .entry)) at (cond (eqb answer 0) (slot-line n (now (list .entry)) (now (clocks .entry)) (now (masks .entry)) [] i a) (refused-line i answer)) r (now (out .exit)) × (r ≤ at + 800) ⌝ }
 {
     if answer == 0 {
-        return event::put_event(out, at, n, list, i, clocks, masks, a);
+        return event::put_event(out, at, n, list, i, clocks, masks, &[], a);
     }
     put_refused(out, at, i, answer)
 }

@@ -2,7 +2,8 @@
 use Prim.Native.Nat.{ℕ, _+_, _≤_}
 use native.Mathlib.Nat.{mul-le-mul}
 use native.Mathlib.Omega.{arith}
-use mathlib.Core.Path.{_≡_, _∙_}
+use mathlib.Core.Path.{_≡_, refl, _∙_}
+use mathlib.Core.Logic.{_⊎_, inl, inr}
 use mathlib.Core.Bool.{Bool, _||_, not}
 use mathlib.Core.List.{List}
 use lib.Dec.{eqb, ltb}
@@ -10,15 +11,15 @@ use lib.ListN.{length, drop, length-append, length-take}
 use Rattle.paper.specs.Buffers.{Work, short, entries}
 use Rattle.paper.specs.Bytes.{two-bytes, four-bytes, text}
 use Rattle.paper.specs.Chain.{chain}
-use Rattle.paper.specs.Class.{list-checks, class-number, class}
+use Rattle.paper.specs.Class.{list-checks, class-by, class, class-lamport}
 use Rattle.paper.specs.Clock.{Clock}
 use Rattle.paper.specs.Event.{Event, how-many, events-of}
 use Rattle.paper.specs.Machine.{start, answers, clocked}
 use Rattle.paper.specs.Order as order
 use Rattle.paper.specs.Questions.{ordering, list-refusal, comparing, comparing-refusal, no-such, judged, chaining-refusal, chaining}
 use Rattle.paper.specs.Questions.{writing-refusal, writing}
-use Rattle.paper.specs.Reading.{wrong-count, header-checks, first-refused, read-of, reading-refusal, reading}
-use Rattle.paper.specs.Refusals.{first, of-call}
+use Rattle.paper.specs.Reading.{wrong-count, header-checks, first-refused, read-of, reading-refusal, reading, reading-lamport}
+use Rattle.paper.specs.Refusals.{first, of-call, refused}
 use Rattle.paper.specs.Sheet.{processes-in, list-offset, list-size, list-in, stamps-in, piece, pieces, stamps-part, header, written}
 use Rattle.paper.specs.Stamp.{stamps}
 use Rattle.paper.proofs.Laws.Runs.{clocked-few, clocked-all, length-events}
@@ -31,6 +32,7 @@ use Rattle.paper.proofs.Sheets.Checks.{not-below, below, equal, neither, in-ord
 use Rattle.paper.proofs.Sheets.Header.{header-says}
 use Rattle.paper.proofs.Sheets.Sizes.{stamps-short}
 use Rattle.paper.proofs.Verdicts.{verdict-right}
+use Rattle.sheet.proofs.WithNumbers.{nine-or-plain}
 use Rattle.oboefinch.specs.Packed.{read-fields, class-fields, write-fields, verdict-fields, chain-fields, fields}
 use Rattle.oboefinch.proofs.Refusals.{Mild, capped, call-mild, then-mild, mild-small, events-mild, stamps-mild, zip-few}
 use Rattle.oboefinch.proofs.Small.{Small, outcome-small}
@@ -66,18 +68,24 @@ few n list small brief =
     }
 
 module _ (n : ℕ) (list : List ℕ) (w : Work) where
-  pub class-small : (told : List ℕ) → Small (fields class-fields (class n list w told .0))
-  unfolding class
-  class-small told =
-      let m = how-many list in
-      outcome-small class-fields (of-call (class-number n list w told)) _
-      (mild-small _ (call-mild (class-number n list w told) (simp capped)))
+  -- Class mode, whatever else 9 asks for.
+  class-by-small : (told : List ℕ) (scant : Bool) → Small (fields class-fields (class-by (list-checks n list scant) n list w told .0))
+  class-by-small told scant =
+      outcome-small class-fields (of-call (list-checks n list scant)) _
+      (mild-small _ (call-mild (list-checks n list scant) (simp capped)))
       (λ h.
-      let (count, ((events, brief, size), _)) =
-      list-passed n list (short n m w || ltb (length told) m)
-      (neither (short n m w) (ltb (length told) m) (room n m w) (not-below (length told) m)) .0 h in
+      let (count, ((events, brief, size), _)) = list-passed n list scant ((λ q. q), (λ q. q)) .0 h in
       let f = few n list (count .1) (omega arith) in
       record { number = omega arith; x = omega arith; y = omega (arith, f .accepted); z = omega (arith, f .carried) })
+
+  pub class-small : (told : List ℕ) → Small (fields class-fields (class n list w told .0))
+  unfolding class
+  class-small told = class-by-small told (short n (how-many list) w || ltb (length told) (how-many list))
+
+  pub class-lamport-small : (told numbers : List ℕ) → Small (fields class-fields (class-lamport n list w told numbers .0 .0))
+  unfolding class-lamport
+  class-lamport-small told numbers =
+      class-by-small told (short n (how-many list) w || ltb (length told) (how-many list) || ltb (length numbers) (how-many list))
 
   -- 4, 8, 9, events in order.
   list-mild : Mild (list-refusal n list w)
@@ -160,3 +168,13 @@ module _ (b : List ℕ) (w : Work) where
       let (m, brief, size) = sheet .whole-records in
       let f = few processes (list-in b) (sheet .processes .2) (omega arith) in
       record { number = omega arith; x = omega (arith, sheet .processes .2); y = omega arith; z = omega (arith, f .carried) })
+
+  -- Where Lamport numbers are asked for, the outcome is that of reading or 9.
+  pub reading-lamport-small : (numbers : List ℕ) → Small (fields read-fields (reading-lamport b w numbers .0 .0))
+  reading-lamport-small numbers = go (nine-or-plain b w numbers)
+    where
+      go :
+          (reading-lamport b w numbers .0 ≡ reading b w) ⊎ (reading-lamport b w numbers .0 ≡ (refused (of-call 9), w))
+          → Small (fields read-fields (reading-lamport b w numbers .0 .0))
+      go (inl q) = rw q reading-small
+      go (inr q) = rw q (mild-small (of-call 9) (call-mild 9 refl))

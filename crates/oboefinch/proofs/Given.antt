@@ -4,7 +4,7 @@ use mathlib.Core.Path.{_≡_, sym, ap, subst, _∙_}
 use mathlib.Core.List.{List}
 use Rattle.paper.specs.Buffers.{Work}
 use Rattle.paper.specs.Refusals.{Outcome}
-use Rattle.oboefinch.specs.Packed.{Fields, fields, answered, with-work, with-output}
+use Rattle.oboefinch.specs.Packed.{Fields, fields, answered, with-work, with-output, with-numbers}
 use Rattle.oboefinch.proofs.Small.{Small}
 
 module _ {A : Type 0} (told : A → Fields) (p o : Outcome A) (case : p ≡ o) where
@@ -27,3 +27,11 @@ module _ {A : Type 0} (told : A → Fields) (p o : Outcome A) (case : p ≡ o) w
 
     pub answer-output : (k : ℕ) → k ≡ answered told o → (k, w, out) ≡ with-output told r
     answer-output k h = ap (λ (j : ℕ). (j, w, out)) (h ∙ ap (answered told) (sym case)) ∙ ap (with-output told) e
+
+-- The same with the slots of Lamport numbers behind, where what the called function gave with them is r.
+module _ {A : Type 0} (a : A) (numbers : List ℕ) (r : A × List ℕ) (e : (a, numbers) ≡ r) where
+  pub before-numbers : a ≡ r .0
+  before-numbers = ap (λ (q : A × List ℕ). q .0) e
+
+  pub answer-numbers : {B : Type 0} (f : A → B) (b : B) → b ≡ f (r .0) → (b, numbers) ≡ with-numbers f r
+  answer-numbers f b h = let y = ap (λ (q : A × List ℕ). q .1) e in λ i. (h i, y i)

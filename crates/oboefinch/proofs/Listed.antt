@@ -2,13 +2,15 @@
 use Prim.Native.Nat.{ℕ, _/_, _<_}
 use native.Mathlib.Omega.{arith}
 use mathlib.Core.Path.{_≡_, sym, ap, _∙_}
+use mathlib.Core.Logic.{_⊎_, inl, inr}
 use mathlib.Core.List.{List}
 use lib.ListN.{length, take, drop, length-take, length-drop}
 use Rattle.paper.specs.Buffers.{Work}
-use Rattle.paper.specs.Reading.{Read, reading}
-use Rattle.paper.specs.Refusals.{Outcome, done}
+use Rattle.paper.specs.Reading.{Read, reading, reading-lamport}
+use Rattle.paper.specs.Refusals.{Refusal, of-call, Outcome, refused, done}
 use Rattle.paper.specs.Sheet.{list-offset, list-size}
 use Rattle.paper.proofs.ReadExactly.{reading-number, reading-done}
+use Rattle.sheet.proofs.WithNumbers.{nine-or-plain}
 use Rattle.oboefinch.specs.Packed.{packed, answered, read-fields}
 use Rattle.oboefinch.proofs.Calls.{reading-small}
 use Rattle.oboefinch.proofs.Given.{small-work}
@@ -33,3 +35,17 @@ module _ (b : List ℕ) (w : Work) (n v offset size : ℕ) where
 
       pub listed-answer : (k : ℕ) → k ≡ packed (record { number = 0; x = n; y = size / 8; z = v }) → k ≡ answered read-fields (done listed)
       listed-answer k h = h ∙ ap (λ (s : ℕ). packed (record { number = 0; x = n; y = s / 8; z = v })) (sym list-long)
+
+-- What is answered is not refused.
+done-not-refused : {A : Type 0} (a : A) (r : Refusal) → done a ≡ refused r → ⊥
+done-not-refused a r h = let z : _≡_ {A = ℕ} 0 1 = cc in absurd (omega arith)
+
+-- A sheet that is accepted where Lamport numbers are asked for is accepted by reading.
+pub plainly :
+    (b : List ℕ) (w : Work) (numbers : List ℕ) (a : Read) (p : Outcome Read) (after : Work) → p ≡ done a → (p, after) ≡ reading-lamport b w numbers .0
+    → (p, after) ≡ reading b w
+plainly b w numbers a p after case e = go (nine-or-plain b w numbers)
+  where
+    go : (reading-lamport b w numbers .0 ≡ reading b w) ⊎ (reading-lamport b w numbers .0 ≡ (refused (of-call 9), w)) → (p, after) ≡ reading b w
+    go (inl q) = e ∙ q
+    go (inr q) = absurd (done-not-refused a (of-call 9) (sym case ∙ ap (λ (x : Outcome Read × Work). x .0) (e ∙ q)))

@@ -55,3 +55,7 @@ with-work told r = (answered told (r .0), r .1)
 
 abbrev pub with-output : {A : Type 0} → (A → Fields) → Outcome A × Work × List ℕ → ℕ × Work × List ℕ
 with-output told r = (answered told (r .0), r .1, r .2)
+
+-- The same with the Lamport numbers' slots behind.
+abbrev pub with-numbers : {A B : Type 0} → (A → B) → A × List ℕ → B × List ℕ
+with-numbers f r = (f (r .0), r .1)

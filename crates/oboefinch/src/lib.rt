@@ -4,10 +4,10 @@ mod pack;
 ghost use mathlib.Core.Path.{_≡_};
 ghost use Rattle.paper.specs.Class as paper;
 ghost use Rattle.paper.specs.Questions.{ordering, comparing, chaining, writing};
-ghost use Rattle.paper.specs.Reading.{reading};
+ghost use Rattle.paper.specs.Reading.{reading, reading-lamport};
 ghost use Rattle.course.specs.Said.{work};
 ghost use Rattle.oboefinch.specs.Packed.{read-fields, class-fields, write-fields, verdict-fields, chain-fields};
-ghost use Rattle.oboefinch.specs.Packed.{answered, with-work, with-output};
+ghost use Rattle.oboefinch.specs.Packed.{answered, with-work, with-output, with-numbers};
 use clock::Ordered;
 use clock::Position;
 use course::Classed;
@@ -34,6 +34,25 @@ pub extern "C" fn oboefinch_read(
     }
 }
 
+// Reading a sheet, with the Lamport numbers of its events.
+#[no_mangle]
+pub extern "C" fn oboefinch_read_lamport(
+    sheet: &[u8],
+    clocks: &mut [u16],
+    masks: &mut [u32],
+    values: &mut [u16],
+    lamports: &mut [u16],
+) -> u64
+    ensures { λ r. ⌜ ((r, work (now (clocks .exit)) (now (masks .exit)) (now (values .exit))), now (lamports .exit))
+        ≡ with-numbers (with-work read-fields)
+        (reading-lamport (now (sheet .entry)) (work (now (clocks .entry)) (now (masks .entry)) (now (values .entry))) (now (lamports .entry))) ⌝ }
+{
+    match sheet::read_lamport(sheet, clocks, masks, values, lamports) {
+        Reading::Refused(r) => pack::refusal(r),
+        Reading::Accepted(a) => pack::fields(0, a.processes, a.size / 8, a.carried),
+    }
+}
+
 // Class mode: each offer of the list is tried.
 #[no_mangle]
 pub extern "C" fn oboefinch_class(
@@ -51,6 +70,27 @@ pub extern "C" fn oboefinch_class(
     match course::class(n, list, clocks, masks, values, answers) {
         Classed::Refused(r) => pack::refusal(r),
         Classed::Done(accepted, carried) => pack::fields(0, 0, accepted, carried),
+    }
+}
+
+// Class mode, with the Lamport numbers of the accepted events.
+#[no_mangle]
+pub extern "C" fn oboefinch_class_lamport(
+    n: usize,
+    list: &[u8],
+    clocks: &mut [u16],
+    masks: &mut [u32],
+    values: &mut [u16],
+    answers: &mut [u8],
+    lamports: &mut [u16],
+) -> u64
+    ensures { λ r. ⌜ ((r, work (now (clocks .exit)) (now (masks .exit)) (now (values .exit)), now (answers .exit)), now (lamports .exit))
+        ≡ with-numbers (with-output class-fields)
+        (paper.class-lamport n (now (list .entry)) (work (now (clocks .entry)) (now (masks .entry)) (now (values .entry))) (now (answers .entry)) (now (lamports .entry))) ⌝ }
+{
+    match course::class_lamport(n, list, clocks, masks, values, answers, lamports) {
+        Classed::Refused(r) => pack::refusal(r),
+        Classed::Done(k, v) => pack::fields(0, 0, k, v),
     }
 }
 

@@ -69,9 +69,9 @@ same-many n s x e = go (ℕ-discrete (answer n s e) 0)
     go (yes q) = rw (record-stamps-yes n s x e q, clocked-yes n s x e q)
     go (no q) = rw (record-stamps-no n s x e q, clocked-no n s x e q)
 
-module _ (n m : ℕ) (l clocks₀ masks₀ vals₀ told₀ clocks masks vals told : List ℕ) (vs us ss : List (List ℕ))
+module _ (n m : ℕ) (l clocks₀ masks₀ vals₀ told₀ slots₀ clocks masks vals told : List ℕ) (vs us ss : List (List ℕ))
     (number channel order place sent received head next : List ℕ) (k v i : ℕ)
-    (room : Lent n m l clocks₀ masks₀ vals₀ told₀)
+    (room : Lent n m l clocks₀ masks₀ vals₀ told₀ slots₀)
     (at : At n m l clocks₀ masks₀ vals₀ told₀ clocks masks vals told vs us ss number channel order place sent received head next k v i) where
   abbrev ts : List Stamp
   ts = stamps-at n l i
@@ -126,9 +126,9 @@ module _ (n m : ℕ) (l clocks₀ masks₀ vals₀ told₀ clocks masks vals tol
           mine = λ h. rw (sym (is h)) (at .mine p (rw (is h) h));
         }
 
-    module _ (p : ℕ) (is : process-at l i < 32 → p ≡ process-at l i) (small : p < 32) (r′ : Record) (one some : ℕ)
+    module _ (p : ℕ) (is : process-at l i < 32 → p ≡ process-at l i) (small : p < 32) (r′ : Record) (one some from : ℕ)
         (number′ channel′ order′ place′ sent′ received′ head′ next′ clocks′ masks′ vals′ told′ : List ℕ)
-        (moved : Moved n l i k v (row vs us ss p) r′ one some number′ channel′ order′ place′ sent′ received′ head′ next′ clocks masks vals told clocks′ masks′ vals′ told′) where
+        (moved : Moved n l i k v (row vs us ss p) r′ one some from number number′ channel′ order′ place′ sent′ received′ head′ next′ clocks masks vals told clocks′ masks′ vals′ told′) where
       abbrev e : Event
       e = event-at l (8 * i)
 

@@ -5,12 +5,14 @@ use mathlib.Core.List.{List, [], _∷_, _++_, append-nil, flatMap}
 use mathlib.Core.Path.{_≡_, refl, sym, ap, subst, _∙_}
 use mathlib.Core.Logic.{_≢_}
 use native.Mathlib.Omega.{arith}
+use native.Mathlib.Decide.{ℕ-discrete}
 use native.Mathlib.Nat.{add-zero, zero-add, mul-one, mul-le-mul}
 use lib.ListN.{length, getD, set, length-set}
-use lib.Seq.{sets}
+use lib.Seq.{sets, getD-set-same, getD-set-other}
+use borrow.Author.Tests.{ne-eqb}
 use Rattle.paper.specs.Buffers.{clock-slots, value-slots}
 use Rattle.paper.specs.Clock.{Clock, part}
-use Rattle.paper.specs.Event.{Event, event-at, first-events, internal}
+use Rattle.paper.specs.Event.{Event, event-at, first-events, internal, receive}
 use Rattle.paper.specs.Machine.{State, start, waiting, counted, front, answer, accepted, event-clock, clocked, in-front, member, shape}
 use Rattle.paper.specs.Running.{Running, Records, heard, news, counting, counted-record, sending, receiving, record-stamp, recorded, record-stamps}
 use Rattle.paper.specs.Stamp.{Stamp, no-stamp, cut, mask, count, values, carried, upto, unpacked, told, never-sent, previously}
@@ -28,7 +30,7 @@ use Rattle.paper.proofs.Stamps.Along.{Along, accepted-keeps, news-right, in-fro
 use Rattle.paper.proofs.Stamps.Runs.{after}
 use Rattle.offers.specs.Ledger.{Ledger, Chained, Long}
 use Rattle.offers.specs.Tables.{Found, channel-of, late}
-use Rattle.offers.specs.Turn.{Ready, Moved, state-at, records-at, stamps-at, process-at}
+use Rattle.offers.specs.Turn.{Ready, Moved, Sender, sends, state-at, records-at, stamps-at, process-at}
 use Rattle.offers.specs.View.{view, Whole}
 use Rattle.offers.specs.declared.record.Record.{Record}
 use Rattle.offers.proofs.Chains.{chained-same, chained-more}
@@ -85,10 +87,10 @@ module _ (n : ℕ) (l : List ℕ) (i k v : ℕ) (r : Record) (number channel ord
       (judged-alike s x ts number channel order place sent received (ready .ledger) n (ready .few) e at
       (subst (λ m. Found number m (e .message) at) (ready .accepted) f))
 
-  pub refused-moved : (a : ℕ) → a ≡ answer n s e → (a ≡ 0 → ⊥)
-      → Moved n l i k v r r 0 0 number channel order place sent received head next clocks masks vals answers clocks masks vals (set answers i a)
+  pub refused-moved : (a from : ℕ) → a ≡ answer n s e → (a ≡ 0 → ⊥)
+      → Moved n l i k v r r 0 0 from number number channel order place sent received head next clocks masks vals answers clocks masks vals (set answers i a)
   unfolding clock-slots value-slots flatMap
-  refused-moved a q z =
+  refused-moved a from q z =
       let no : answer n s e ≡ 0 → ⊥ = λ w. z (q ∙ w) in
       record {
         accepted = rw (is, clocked-no n s x e no);
@@ -103,7 +105,22 @@ module _ (n : ℕ) (l : List ℕ) (i k v : ℕ) (r : Record) (number channel ord
         mask = rw (is, record-stamps-no n s x e no);
         value = rw (is, record-stamps-no n s x e no);
         answer = rw is (ap (set answers i) q);
+        older = λ a h. refl;
+        newest = λ z. absurd (z refl);
+        sender = λ z. absurd (z refl);
       }
+
+  -- No number stands where the next accepted event will.
+  none-yet : getD number k 0 ≡ 0
+  none-yet = go (ℕ-discrete (getD number k 0) 0)
+    where
+      go : Dec (getD number k 0 ≡ 0) → getD number k 0 ≡ 0
+      go (yes z) = z
+      go (no z) = let h = ready .ledger .inside k z in absurd (omega (arith, ready .accepted))
+
+  -- What is no send leaves the numbers as they are.
+  unsent : e .kind ≢ 1 → getD number k 0 ≡ sends e
+  unsent z = rw (ne-eqb (e .kind) 1 z) none-yet
 
   module _ (yea : answer n s e ≡ 0) where
     pub p-small : e .process < 32
@@ -130,14 +147,15 @@ module _ (n : ℕ) (l : List ℕ) (i k v : ℕ) (r : Record) (number channel ord
     new-size = sym (ap length new-clock) ∙ accepted-keeps n (ready .few) s x last e inv yea .kept (e .process) .size
 
     -- An accepted event whose stamp is t.
-    moved : (r′ : Record) (more many a : ℕ) (t : Stamp) (number′ channel′ order′ place′ sent′ received′ head′ next′ clocks′ masks′ vals′ : List ℕ)
+    moved : (r′ : Record) (more many from a : ℕ) (t : Stamp) (number′ channel′ order′ place′ sent′ received′ head′ next′ clocks′ masks′ vals′ : List ℕ)
         → more ≡ 1 → a ≡ 0 → view r′ ≡ recorded x e .running (e .process) → Whole (r′ .clock) (r′ .updated) (r′ .sent) → record-stamp x e ≡ t
         → many ≡ length (t .values) → many ≤ n → Long number′ channel′ order′ place′ sent′ received′ head′ next′ → Chained number′ head′ next′ (k + 1)
         → Ledger (accepted s e) (recorded x e) (ts ++ (t ∷ [])) number′ channel′ order′ place′ sent′ received′
         → clocks′ ≡ sets clocks (n * k) (upto (part (r′ .clock)) n) → masks′ ≡ set masks k (t .mask) → vals′ ≡ sets vals v (t .values)
-        → Moved n l i k v r r′ more many number′ channel′ order′ place′ sent′ received′ head′ next′ clocks masks vals answers clocks′ masks′ vals′ (set answers i a)
+        → ((b : ℕ) → b ≢ k → getD number′ b 0 ≡ getD number b 0) → getD number′ k 0 ≡ sends e → Sender number k e from
+        → Moved n l i k v r r′ more many from number number′ channel′ order′ place′ sent′ received′ head′ next′ clocks masks vals answers clocks′ masks′ vals′ (set answers i a)
     unfolding clock-slots value-slots flatMap
-    moved r′ more many a t number′ channel′ order′ place′ sent′ received′ head′ next′ clocks′ masks′ vals′ one nil er whole et em en long chained led ec ek ev =
+    moved r′ more many from a t number′ channel′ order′ place′ sent′ received′ head′ next′ clocks′ masks′ vals′ one nil er whole et em en long chained led ec ek ev older newest sender =
         let same : r′ .clock ≡ event-clock s e =
         ap (λ (w : Running). w .clock) er ∙ new-clock in
         let st : record-stamps n s x (e ∷ []) ≡ t ∷ [] = record-stamps-yes n s x e yea ∙ ap (λ (u : Stamp). u ∷ []) et in
@@ -154,20 +172,23 @@ module _ (n : ℕ) (l : List ℕ) (i k v : ℕ) (r : Record) (number channel ord
           mask = rw (is, st) ek;
           value = rw (is, st, append-nil) ev;
           answer = rw is (ap (set answers i) (nil ∙ sym yea));
+          older = older;
+          newest = λ z. rw is newest;
+          sender = λ z. rw is sender;
         }
 
-    pub internal-moved : (r′ : Record) (more many a : ℕ) (clocks′ masks′ : List ℕ) → e .kind ≡ 0 → a ≡ 0 → view r′ ≡ counting (e .process) (view r) → Whole (r′ .clock) (r′ .updated) (r′ .sent) → more ≡ 1 → many ≡ 0
-        → clocks′ ≡ sets clocks (n * k) (upto (part (r′ .clock)) n) → masks′ ≡ set masks k 0
-        → Moved n l i k v r r′ more many number channel order place sent received head next clocks masks vals answers clocks′ masks′ vals (set answers i a)
+    pub internal-moved : (r′ : Record) (more many from a : ℕ) (clocks′ masks′ : List ℕ) → e .kind ≡ 0 → a ≡ 0 → view r′ ≡ counting (e .process) (view r) → Whole (r′ .clock) (r′ .updated) (r′ .sent) → more ≡ 1 → many ≡ 0
+        → clocks′ ≡ sets clocks (n * k) (upto (part (r′ .clock)) n) → masks′ ≡ set masks k 0 → from ≡ k
+        → Moved n l i k v r r′ more many from number number channel order place sent received head next clocks masks vals answers clocks′ masks′ vals (set answers i a)
     unfolding no-stamp
-    internal-moved r′ more many a clocks′ masks′ h nil er whole one none′ ec em =
-        moved r′ more many a no-stamp number channel order place sent received head next clocks′ masks′ vals one nil
+    internal-moved r′ more many from a clocks′ masks′ h nil er whole one none′ ec em at =
+        moved r′ more many from a no-stamp number channel order place sent received head next clocks′ masks′ vals one nil
         (er ∙ ap (counting (e .process)) view-is ∙ sym (ap (λ (w : Records). w .running (e .process)) (recorded-internal x e h) ∙ at-same (x .running) (e .process) _))
         whole
         (stamp-other x e (λ q. omega arith))
         none′ (omega arith) (ready .long) (chained-same (ready .chained))
         (rw (accepted-internal s e h, recorded-internal x e h) (ledger-internal s x ts number channel order place sent received (ready .ledger) no-stamp _ _))
-        ec em refl
+        ec em refl (λ b z. refl) (unsent (λ q. omega arith)) (record { of-receive = λ q. absurd (omega arith); of-other = λ q. at })
 
     pub fit : Shaped n e
     fit = judged n s e yea .shaped
@@ -214,7 +235,7 @@ module _ (n : ℕ) (l : List ℕ) (i k v : ℕ) (r : Record) (number channel ord
           sym (values-more (news mine (e .peer)) (mine .clock) n (32 - n) beyond) ∙ ap (values (news mine (e .peer)) (mine .clock)) to-32
           ∙ sym (ap (λ (t : Stamp). t .values) (stamp-send x e h))
 
-      pub send-moved : (r′ : Record) (more many a : ℕ) (number′ channel′ order′ place′ sent′ head′ next′ clocks′ masks′ vals′ : List ℕ)
+      pub send-moved : (r′ : Record) (more many from a : ℕ) (number′ channel′ order′ place′ sent′ head′ next′ clocks′ masks′ vals′ : List ℕ)
           → a ≡ 0 → view r′ ≡ sending (e .process) (e .peer) (counting (e .process) (view r)) → Whole (r′ .clock) (r′ .updated) (r′ .sent) → more ≡ 1
           → many ≡ count (news (counting (e .process) (view r)) (e .peer)) n
           → clocks′ ≡ sets clocks (n * k) (upto (part (r′ .clock)) n)
@@ -223,11 +244,11 @@ module _ (n : ℕ) (l : List ℕ) (i k v : ℕ) (r : Record) (number channel ord
           → number′ ≡ set number k (e .message) → channel′ ≡ set channel k (channel-of (e .process) (e .peer))
           → order′ ≡ set order k (getD sent (channel-of (e .process) (e .peer)) 0) → place′ ≡ set place k v
           → sent′ ≡ set sent (channel-of (e .process) (e .peer)) (getD sent (channel-of (e .process) (e .peer)) 0 + 1)
-          → head′ ≡ set head (e .message % 1024) (k + 1) → next′ ≡ set next k (getD head (e .message % 1024) 0)
-          → Moved n l i k v r r′ more many number′ channel′ order′ place′ sent′ received head′ next′ clocks masks vals answers clocks′ masks′ vals′ (set answers i a)
-      send-moved r′ more many a number′ channel′ order′ place′ sent′ head′ next′ clocks′ masks′ vals′ nil er whole one em ec ek ev e1 e2 e3 e4 e5 e6 e7 =
+          → head′ ≡ set head (e .message % 1024) (k + 1) → next′ ≡ set next k (getD head (e .message % 1024) 0) → from ≡ k
+          → Moved n l i k v r r′ more many from number number′ channel′ order′ place′ sent′ received head′ next′ clocks masks vals answers clocks′ masks′ vals′ (set answers i a)
+      send-moved r′ more many from a number′ channel′ order′ place′ sent′ head′ next′ clocks′ masks′ vals′ nil er whole one em ec ek ev e1 e2 e3 e4 e5 e6 e7 at =
           let em′ : many ≡ count (news mine (e .peer)) n = rw view-is at em in
-          moved r′ more many a (record-stamp x e) number′ channel′ order′ place′ sent′ received head′ next′ clocks′ masks′ vals′ one nil
+          moved r′ more many from a (record-stamp x e) number′ channel′ order′ place′ sent′ received head′ next′ clocks′ masks′ vals′ one nil
           (er ∙ ap (λ (w : Running). sending (e .process) (e .peer) (counting (e .process) w)) view-is
           ∙ sym (ap (λ (w : Records). w .running (e .process)) (recorded-send x e h) ∙ at-same (x .running) (e .process) _))
           whole
@@ -254,6 +275,9 @@ module _ (n : ℕ) (l : List ℕ) (i k v : ℕ) (r : Record) (number channel ord
           ec
           (rw view-is at ek ∙ ap (set masks k) mask-is)
           (rw view-is at ev ∙ ap (sets vals v) values-is)
+          (λ b z. rw e1 (getD-set-other number k b (e .message) 0 z))
+          (rw (e1, h) (getD-set-same number k (e .message) 0 (omega (arith, few-stamps, ready .small, ready .long .numbers))))
+          (record { of-receive = λ q. absurd (omega arith); of-other = λ q. at })
 
     module _ (h : e .kind ≡ 2) (at : ℕ) (found : Found number k (e .message) at) where
       abbrev i₁ : ℕ
@@ -316,14 +340,14 @@ module _ (n : ℕ) (l : List ℕ) (i k v : ℕ) (r : Record) (number channel ord
           (told-there carries (front (waiting s e)) vals (begins ts at) value-there
           ∙ ap told (sym (in-front-now n (ready .few) s x last e inv yea h .stamp)))
 
-      pub receive-moved : (r′ : Record) (more many a : ℕ) (received′ clocks′ masks′ : List ℕ)
+      pub receive-moved : (r′ : Record) (more many from a : ℕ) (received′ clocks′ masks′ : List ℕ)
           → a ≡ 0 → view r′ ≡ receiving (e .process) (unpacked (getD masks at 0) vals (getD place at 0)) (counting (e .process) (view r)) → Whole (r′ .clock) (r′ .updated) (r′ .sent) → more ≡ 1 → many ≡ 0
           → clocks′ ≡ sets clocks (n * k) (upto (part (r′ .clock)) n) → masks′ ≡ set masks k 0
-          → received′ ≡ set received c₁ (getD received c₁ 0 + 1)
-          → Moved n l i k v r r′ more many number channel order place sent received′ head next clocks masks vals answers clocks′ masks′ vals (set answers i a)
+          → received′ ≡ set received c₁ (getD received c₁ 0 + 1) → from ≡ at
+          → Moved n l i k v r r′ more many from number number channel order place sent received′ head next clocks masks vals answers clocks′ masks′ vals (set answers i a)
       unfolding no-stamp
-      receive-moved r′ more many a received′ clocks′ masks′ nil er whole one none′ ec ek e1 =
-          moved r′ more many a no-stamp number channel order place sent received′ head next clocks′ masks′ vals one nil
+      receive-moved r′ more many from a received′ clocks′ masks′ nil er whole one none′ ec ek e1 is-at =
+          moved r′ more many from a no-stamp number channel order place sent received′ head next clocks′ masks′ vals one nil
           (er ∙ ap (λ (w : Running). receiving (e .process) (unpacked (getD masks at 0) vals (getD place at 0)) (counting (e .process) w)) view-is
           ∙ ap (λ (w : Clock). receiving (e .process) w (counting (e .process) (x .running (e .process)))) told-is
           ∙ sym (ap (λ (w : Records). w .running (e .process)) (recorded-receive x e h) ∙ at-same (x .running) (e .process) _))
@@ -344,4 +368,5 @@ module _ (n : ℕ) (l : List ℕ) (i k v : ℕ) (r : Record) (number channel ord
           (chained-same (ready .chained))
           (rw (e1, accepted-receive s e h, recorded-receive x e h)
           (ledger-receive s x ts number channel order place sent received (ready .ledger) no-stamp _ _ i₁ j₁ (e .message) (q-small (λ q. omega arith)) p-small leads (ready .long .receiveds)))
-          ec ek refl
+          ec ek refl (λ b z. refl) (unsent (λ q. omega arith))
+          (record { of-receive = λ q. (omega (arith, is-at, at-in, ready .accepted), rw is-at sender); of-other = λ q. absurd (q h) })

@@ -3,10 +3,12 @@
 use Prim.Native.Nat.{ℕ, _+_, _*_, _<_, _≤_}
 use mathlib.Core.List.{List, [], _∷_, _++_}
 use mathlib.Core.Path.{_≡_}
+use mathlib.Core.Logic.{_≢_}
+use mathlib.Core.Bool.{cond}
 use lib.ListN.{length, getD, set}
 use lib.Seq.{sets}
 use Rattle.paper.specs.Buffers.{clock-slots, mask-slots, value-slots}
-use Rattle.paper.specs.Event.{event-at, first-events}
+use Rattle.paper.specs.Event.{Event, event-at, first-events, is-send, receive}
 use Rattle.paper.specs.Machine.{State, start, answer, run, clocked}
 use Rattle.paper.specs.Running.{Records, fresh-records, records, record-stamps}
 use Rattle.paper.specs.Stamp.{Stamp}
@@ -28,6 +30,15 @@ stamps-at n l i = record-stamps n start fresh-records (first-events i l)
 abbrev pub process-at : List ℕ → ℕ → ℕ
 process-at l i = getD l (8 * i + 1) 0
 
+-- The number that an event sends, or 0.
+abbrev pub sends : Event → ℕ
+sends e = cond (is-send e) (e .message) 0
+
+-- The accepted event `from`, of the first k, sent what e receives; it is k where e receives nothing.
+pub record Sender (number : List ℕ) (k : ℕ) (e : Event) (from : ℕ) : Type 0 where
+  pub of-receive : e .kind ≡ receive → (from < k) × (getD number from 0 ≡ e .message)
+  pub of-other : e .kind ≢ receive → from ≡ k
+
 -- Before offer i, where r is the record of its process.
 pub record Ready (n : ℕ) (l : List ℕ) (i k v : ℕ) (r : Record) (number channel order place sent received head next clocks masks values answers : List ℕ) : Type 0 where
   pub some : 1 ≤ n
@@ -48,8 +59,8 @@ pub record Ready (n : ℕ) (l : List ℕ) (i k v : ℕ) (r : Record) (number cha
   pub whole : Whole (r .clock) (r .updated) (r .sent)
   pub mine : process-at l i < 32 → view r ≡ records-at n l i .running (process-at l i)
 
--- After it: k and v were the numbers of accepted events and of carried values, and `more` and `many` are added to them.
-pub record Moved (n : ℕ) (l : List ℕ) (i k v : ℕ) (r r′ : Record) (more many : ℕ) (number channel order place sent received head next : List ℕ)
+-- After it: k and v were the numbers of accepted events and of carried values, and `more` and `many` are added to them; number₀ was the table.
+pub record Moved (n : ℕ) (l : List ℕ) (i k v : ℕ) (r r′ : Record) (more many from : ℕ) (number₀ number channel order place sent received head next : List ℕ)
     (clocks₀ masks₀ values₀ answers₀ clocks masks values answers : List ℕ) : Type 0 where
   pub accepted : more ≡ length (clocked n (state-at n l i) (event-at l (8 * i) ∷ []))
   pub carried : many ≡ length (value-slots (record-stamps n (state-at n l i) (records-at n l i) (event-at l (8 * i) ∷ [])))
@@ -65,3 +76,6 @@ pub record Moved (n : ℕ) (l : List ℕ) (i k v : ℕ) (r r′ : Record) (more 
   pub mask : masks ≡ sets masks₀ k (mask-slots (record-stamps n (state-at n l i) (records-at n l i) (event-at l (8 * i) ∷ [])))
   pub value : values ≡ sets values₀ v (value-slots (record-stamps n (state-at n l i) (records-at n l i) (event-at l (8 * i) ∷ [])))
   pub answer : answers ≡ set answers₀ i (answer n (state-at n l i) (event-at l (8 * i)))
+  pub older : (a : ℕ) → a ≢ k → getD number a 0 ≡ getD number₀ a 0
+  pub newest : more ≢ 0 → getD number k 0 ≡ sends (event-at l (8 * i))
+  pub sender : more ≢ 0 → Sender number₀ k (event-at l (8 * i)) from

@@ -1,6 +1,7 @@
 // The course of offers: each is judged, and the accepted events get their clocks and short stamps.
 mod channel;
 mod event;
+mod lamport;
 pub mod lent;
 pub mod record;
 mod turn;
@@ -19,11 +20,19 @@ pub struct Tried {
 }
 
 // 9: whether a lent buffer is too short for m offers of n processes.
-fn is_scant(n: usize, m: usize, clocks: usize, masks: usize, values: usize, answers: usize) -> bool
+fn is_scant(
+    n: usize,
+    m: usize,
+    clocks: usize,
+    masks: usize,
+    values: usize,
+    answers: usize,
+    lamports: usize,
+) -> bool
     requires { ⌜ (n ≤ 32) × (m ≤ 512) ⌝ }
-    ensures { λ r. ⌜ r ≡ scant n m clocks masks values answers ⌝ }
+    ensures { λ r. ⌜ r ≡ scant n m clocks masks values answers lamports ⌝ }
 {
-    (clocks < n * m) | (masks < m) | (values < n * m) | (answers < m)
+    (clocks < n * m) | (masks < m) | (values < n * m) | (answers < m) | (lamports < m)
 }
 
 // 4, 8, 9 by the lengths of what is lent, or 0.
@@ -34,8 +43,9 @@ fn early_number(
     masks: usize,
     values: usize,
     answers: usize,
+    lamports: usize,
 ) -> u8
-    ensures { λ r. ⌜ r ≡ early n list clocks masks values answers ⌝ }
+    ensures { λ r. ⌜ r ≡ early n list clocks masks values answers lamports ⌝ }
 {
     if (n < 1) | (32 < n) {
         return 4;
@@ -43,7 +53,7 @@ fn early_number(
     if (list % 8 != 0) | (4096 < list) {
         return 8;
     }
-    if is_scant(n, list / 8, clocks, masks, values, answers) {
+    if is_scant(n, list / 8, clocks, masks, values, answers, lamports) {
         return 9;
     }
     0
@@ -58,9 +68,10 @@ pub fn course(
     masks: &mut [u32],
     values: &mut [u16],
     answers: &mut [u8],
+    lamports: &mut [u16],
 ) -> Tried
-    ensures { λ r. ⌜ Called strict n (now (list .entry)) (now (clocks .entry)) (now (masks .entry)) (now (values .entry)) (now (answers .entry))
-        (now (clocks .exit)) (now (masks .exit)) (now (values .exit)) (now (answers .exit)) (r .number) (r .tried) (r .accepted) (r .carried) ⌝ }
+    ensures { λ r. ⌜ Called strict n (now (list .entry)) (now (clocks .entry)) (now (masks .entry)) (now (values .entry)) (now (answers .entry)) (now (lamports .entry))
+        (now (clocks .exit)) (now (masks .exit)) (now (values .exit)) (now (answers .exit)) (now (lamports .exit)) (r .number) (r .tried) (r .accepted) (r .carried) ⌝ }
 {
     let number = early_number(
         n,
@@ -69,6 +80,7 @@ pub fn course(
         masks.len(),
         values.len(),
         answers.len(),
+        lamports.len(),
     );
     if number != 0 {
         return Tried {
@@ -79,7 +91,7 @@ pub fn course(
         };
     }
     let m = list.len() / 8;
-    let t = turn::course(strict, n, m, list, clocks, masks, values, answers);
+    let t = turn::course(strict, n, m, list, clocks, masks, values, answers, lamports);
     Tried {
         number: 0,
         tried: t.tried,

@@ -18,9 +18,11 @@ use super::event::index;
 use clock::Message;
 use clock::Process;
 
+// What an offer adds to the accepted events and to the carried values; and which accepted event sent what it receives, or how many there are.
 pub struct Step {
     pub accepted: usize,
     pub carried: usize,
+    pub from: usize,
 }
 
 fn internal(
@@ -37,7 +39,7 @@ fn internal(
     ensures { λ s. ⌜ ((sent : List ℕ) → viewing (now (clock .exit)) (now (updated .exit)) sent ≡ counting (p .0) (viewing (now (clock .entry)) (now (updated .entry)) sent))
         × (length (now (clock .exit)) ≡ 32) × (length (now (updated .exit)) ≡ 32) × (s .accepted ≡ 1) × (s .carried ≡ 0)
         × (now (clocks .exit) ≡ sets (now (clocks .entry)) (n * k) (upto (part (now (clock .exit))) n))
-        × (now (masks .exit) ≡ set (now (masks .entry)) k 0) ⌝ }
+        × (now (masks .exit) ≡ set (now (masks .entry)) k 0) × (s .from ≡ k) ⌝ }
 {
     super::record::count(p, clock, updated);
     masks[k] = 0;
@@ -45,6 +47,7 @@ fn internal(
     Step {
         accepted: 1,
         carried: 0,
+        from: k,
     }
 }
 
@@ -102,9 +105,9 @@ fn send(
         × (now (masks .exit) ≡ set (now (masks .entry)) k (mask (news (counting (p .0) (viewing (now (clock .entry)) (now (updated .entry)) (now («last_sent» .entry)))) (q .0)) n))
         × (now (out .exit) ≡ sets (now (out .entry)) v (values (news (counting (p .0) (viewing (now (clock .entry)) (now (updated .entry)) (now («last_sent» .entry)))) (q .0))
         (counting (p .0) (viewing (now (clock .entry)) (now (updated .entry)) (now («last_sent» .entry))) .clock) n)) ⌝ }
-    ensures { λ _. ⌜ (now (number .exit) ≡ set (now (number .entry)) k (x .0)) × (now (channel .exit) ≡ set (now (channel .entry)) k (channel-of (p .0) (q .0)))
+    ensures { λ s. ⌜ (now (number .exit) ≡ set (now (number .entry)) k (x .0)) × (now (channel .exit) ≡ set (now (channel .entry)) k (channel-of (p .0) (q .0)))
         × (now (order .exit) ≡ set (now (order .entry)) k (getD (now (sent .entry)) (channel-of (p .0) (q .0)) 0)) × (now (place .exit) ≡ set (now (place .entry)) k v)
-        × (now (sent .exit) ≡ set (now (sent .entry)) (channel-of (p .0) (q .0)) (getD (now (sent .entry)) (channel-of (p .0) (q .0)) 0 + 1)) ⌝ }
+        × (now (sent .exit) ≡ set (now (sent .entry)) (channel-of (p .0) (q .0)) (getD (now (sent .entry)) (channel-of (p .0) (q .0)) 0 + 1)) × (s .from ≡ k) ⌝ }
 {
     let ch = channel_number(p, q);
     let mask = super::record::cut(p, q, n, clock, updated, last_sent, out, v);
@@ -114,6 +117,7 @@ fn send(
     Step {
         accepted: 1,
         carried: u32::count_ones(mask) as usize,
+        from: k,
     }
 }
 
@@ -139,7 +143,7 @@ fn receive(
         × (length (now (clock .exit)) ≡ 32) × (length (now (updated .exit)) ≡ 32) × (s .accepted ≡ 1) × (s .carried ≡ 0)
         × (now (clocks .exit) ≡ sets (now (clocks .entry)) (n * k) (upto (part (now (clock .exit))) n))
         × (now (masks .exit) ≡ set (now (masks .entry)) k 0)
-        × (now (received .exit) ≡ set (now (received .entry)) (channel-of (q .0) (p .0)) (getD (now (received .entry)) (channel-of (q .0) (p .0)) 0 + 1)) ⌝ }
+        × (now (received .exit) ≡ set (now (received .entry)) (channel-of (q .0) (p .0)) (getD (now (received .entry)) (channel-of (q .0) (p .0)) 0 + 1)) × (s .from ≡ at) ⌝ }
 {
     let ch = channel_number(q, p);
     let a = index(place[at]);
@@ -150,6 +154,7 @@ fn receive(
     Step {
         accepted: 1,
         carried: 0,
+        from: at,
     }
 }
 
@@ -177,7 +182,7 @@ pub(crate) fn offered(
     answers: &mut [u8],
 ) -> Step
     requires { ⌜ Ready n (now list) i k v (as-record (now clock) (now updated) (now «last_sent»)) (now number) (now channel) (now order) (now place) (now sent) (now received) (now head) (now next) (now clocks) (now masks) (now values) (now answers) ⌝ }
-    ensures { λ s. ⌜ Moved n (now (list .entry)) i k v (as-record (now (clock .entry)) (now (updated .entry)) (now («last_sent» .entry))) (as-record (now (clock .exit)) (now (updated .exit)) (now («last_sent» .exit))) (s .accepted) (s .carried) (now (number .exit)) (now (channel .exit)) (now (order .exit)) (now (place .exit)) (now (sent .exit)) (now (received .exit)) (now (head .exit)) (now (next .exit))
+    ensures { λ s. ⌜ Moved n (now (list .entry)) i k v (as-record (now (clock .entry)) (now (updated .entry)) (now («last_sent» .entry))) (as-record (now (clock .exit)) (now (updated .exit)) (now («last_sent» .exit))) (s .accepted) (s .carried) (s .from) (now (number .entry)) (now (number .exit)) (now (channel .exit)) (now (order .exit)) (now (place .exit)) (now (sent .exit)) (now (received .exit)) (now (head .exit)) (now (next .exit))
         (now (clocks .entry)) (now (masks .entry)) (now (values .entry)) (now (answers .entry)) (now (clocks .exit)) (now (masks .exit)) (now (values .exit)) (now (answers .exit)) ⌝ }
 {
     let e = super::event::read(list, i);
@@ -188,6 +193,7 @@ pub(crate) fn offered(
         return Step {
             accepted: 0,
             carried: 0,
+            from: k,
         };
     }
     if e.kind == 1 {
@@ -259,10 +265,11 @@ pub(crate) fn course(
     masks: &mut [u32],
     values: &mut [u16],
     answers: &mut [u8],
+    lamports: &mut [u16],
 ) -> Totals
-    requires { ⌜ Lent n m (now list) (now clocks) (now masks) (now values) (now answers) ⌝ }
-    ensures { λ r. ⌜ Ran strict n m (now (list .entry)) (now (clocks .entry)) (now (masks .entry)) (now (values .entry)) (now (answers .entry))
-        (now (clocks .exit)) (now (masks .exit)) (now (values .exit)) (now (answers .exit)) (r .tried) (r .accepted) (r .carried) ⌝ }
+    requires { ⌜ Lent n m (now list) (now clocks) (now masks) (now values) (now answers) (now lamports) ⌝ }
+    ensures { λ r. ⌜ Ran strict n m (now (list .entry)) (now (clocks .entry)) (now (masks .entry)) (now (values .entry)) (now (answers .entry)) (now (lamports .entry))
+        (now (clocks .exit)) (now (masks .exit)) (now (values .exit)) (now (answers .exit)) (now (lamports .exit)) (r .tried) (r .accepted) (r .carried) ⌝ }
 {
     let mut clock = [[0u16; 32]; 32];
     let mut updated = [[0u16; 32]; 32];
@@ -275,6 +282,7 @@ pub(crate) fn course(
     let mut received = [0u16; 1024];
     let mut head = [0u16; 1024];
     let mut next = [0u16; 512];
+    let mut latest = [0u16; 32];
     let mut end: usize = m;
     let mut k: usize = 0;
     let mut v: usize = 0;
@@ -303,6 +311,7 @@ pub(crate) fn course(
             values,
             answers,
         );
+        super::lamport::number(s.accepted, p, s.from, k, &mut latest, lamports);
         k = k + s.accepted;
         v = v + s.carried;
         end = end_after(strict, s.accepted, i, end);

@@ -7,6 +7,7 @@ pub mod Sufficiency
 pub mod LeftOut
 pub mod Fifo
 pub mod Causality
+pub mod LamportBelow
 pub mod MergeFirst
 pub mod Verdicts
 pub mod ChainRight

@@ -1,4 +1,4 @@
--- The settled examples (1) to (12) of the paper, as one statement over their set, and sheet A entire: all by computation.
+-- The settled examples (1) to (12) of the paper, as one statement over their set, and sheet A entire, with its Lamport numbers: all by computation.
 use Prim.Native.Nat.{ℕ}
 use mathlib.Core.Path.{_≡_, refl}
 use mathlib.Core.List.{List, [], _∷_, _++_, flatMap, flatten, zipWith}
@@ -9,11 +9,12 @@ use Rattle.paper.specs.Chain.{first-that, learner, sender, walk, chain}
 use Rattle.paper.specs.Class.{class}
 use Rattle.paper.specs.Clock.{zero-clock, tick, merge}
 use Rattle.paper.specs.Event.{is-sent-to, event-at, first-events}
-use Rattle.paper.specs.Listing.{digits, decimal, word, words, event-line, event-lines, head-line, listing}
+use Rattle.paper.specs.Lamport.{no-scalars, taken-in, scaled, lamports-after, lamports-left}
+use Rattle.paper.specs.Listing.{digits, decimal, word, words, event-words, event-line, event-lines, lamport-line, lamport-lines, head-line, listing, lamport-listing}
 use Rattle.paper.specs.Machine.{start, member, in-queue, in-front, wrong-peer, wrong-number, shape, answer, front, rest, event-clock, accepted, offered, answers, clocked}
 use Rattle.paper.specs.Order.{nothing, within, same, verdict}
 use Rattle.paper.specs.Questions.{list-refusal, comparing-refusal, comparing, chaining-refusal, chaining}
-use Rattle.paper.specs.Reading.{header-checks, first-refused, begins, stamps-refused, read-of, reading-refusal, reading}
+use Rattle.paper.specs.Reading.{header-checks, first-refused, begins, stamps-refused, read-of, reading-refusal, reading, reading-lamport}
 use Rattle.paper.specs.Refusals.{of-call, refused, done}
 use Rattle.paper.specs.Sheet.{stamp-bytes, pieces, stamps-part, header, written}
 use Rattle.paper.specs.Stamp.{mask, values, cut, no-stamp, carried, previous, stamp-of, stamps-after}
@@ -87,6 +88,9 @@ pub record Settled : Type 0 where
       ++ (A ++ (1 ∷ 0 ∷ 0 ∷ 0 ∷ 1 ∷ 0 ∷ 4 ∷ 0 ∷ 0 ∷ 0 ∷ 1 ∷ 0 ∷ 3 ∷ 0 ∷ 0 ∷ 0 ∷ 1 ∷ 0 ∷ 2 ∷ 0 ∷ 6 ∷ 0 ∷ 0 ∷ 0 ∷ 4 ∷ 0 ∷ 1 ∷ 0 ∷ []))
   pub bytes-of-A : length (written 3 A) ≡ 116
   pub read-A : reading (written 3 A) (lent 24 8) .0 ≡ done (record { processes = 3; list = A; carried = 6 })
+  -- its Lamport numbers by LC1 and LC2, as reading A leaves them; with one slot too few for them: 9
+  pub lamports-of-A : reading-lamport (written 3 A) (lent 25 9) (replicate 9 9) .1 ≡ 1 ∷ 1 ∷ 2 ∷ 3 ∷ 4 ∷ 5 ∷ 4 ∷ 6 ∷ 9 ∷ []
+  pub lamports-short : reading-lamport (written 3 A) (lent 24 8) (replicate 7 9) ≡ ((refused (of-call 9), lent 24 8), replicate 7 9)
   -- its last stamp cut short: 18 at its event; a byte more behind its stamps: 19
   pub ends-early :
       reading (header 3 64 26 ++ (A ++ take 26 (stamps-part 3 A))) (lent 25 9) ≡ (refused (record { number = 18; position = 5 }), cleared 24 8)
@@ -94,9 +98,12 @@ pub record Settled : Type 0 where
   pub listing-of-A :
       listing 3 A
       ≡ text "events 8 processes 3 entries 6\n0 S 0 1 1 1 1 0 0\n1 S 2 1 2 4 0 0 1\n2 R 1 0 1 0 1 1 0\n3 S 1 0 3 3 1 2 0\n4 R 1 2 2 0 1 3 1\n5 S 1 0 4 6 1 4 1\n6 R 0 1 3 0 2 2 0\n7 R 0 1 4 0 3 4 1\n"
+  pub lamport-listing-of-A :
+      lamport-listing 3 A
+      ≡ text "events 8 processes 3 entries 6\n0 S 0 1 1 1 1 0 0 1\n1 S 2 1 2 4 0 0 1 1\n2 R 1 0 1 0 1 1 0 2\n3 S 1 0 3 3 1 2 0 3\n4 R 1 2 2 0 1 3 1 4\n5 S 1 0 4 6 1 4 1 5\n6 R 0 1 3 0 2 2 0 4\n7 R 0 1 4 0 3 4 1 6\n"
 
 pub settled : Settled
-unfolding first-events event-at is-sent-to clocked start offered accepted event-clock answer answers shape member in-queue in-front front rest at at₂ wrong-peer wrong-number zero-clock tick merge nothing chain walk first-that learner sender verdict within same stamps-after stamp-of previous cut no-stamp carried mask values laid short clock-slots value-slots filled after-call written-to class comparing comparing-refusal chaining chaining-refusal list-refusal reading reading-refusal read-of header-checks first-refused stamps-refused begins pieces stamps-part stamp-bytes header written flatMap flatten zipWith two-bytes four-bytes text digits decimal word words event-line event-lines head-line listing
+unfolding first-events event-at is-sent-to clocked start offered accepted event-clock answer answers shape member in-queue in-front front rest at at₂ wrong-peer wrong-number zero-clock tick merge nothing chain walk first-that learner sender verdict within same stamps-after stamp-of previous cut no-stamp carried mask values laid short clock-slots value-slots filled after-call written-to class comparing comparing-refusal chaining chaining-refusal list-refusal reading reading-refusal read-of reading-lamport no-scalars taken-in scaled lamports-after lamports-left header-checks first-refused stamps-refused begins pieces stamps-part stamp-bytes header written flatMap flatten zipWith two-bytes four-bytes text digits decimal word words event-words event-line event-lines lamport-line lamport-lines head-line listing lamport-listing
 settled =
     record {
       clocks-of-A = refl;
@@ -118,7 +125,10 @@ settled =
       sheet-A = refl;
       bytes-of-A = refl;
       read-A = refl;
+      lamports-of-A = refl;
+      lamports-short = refl;
       ends-early = refl;
       left-over = refl;
       listing-of-A = refl;
+      lamport-listing-of-A = refl;
     }

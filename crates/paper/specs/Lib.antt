@@ -10,6 +10,7 @@ pub mod Order
 pub mod Chain
 pub mod Channel
 pub mod Buffers
+pub mod Lamport
 pub mod Sheet
 pub mod Reading
 pub mod Class

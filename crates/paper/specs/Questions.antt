@@ -8,28 +8,37 @@ use Rattle.paper.specs.Buffers.{Work, short, entries, after-call, writte
 use Rattle.paper.specs.Chain.{chain}
 use Rattle.paper.specs.Class.{list-checks}
 use Rattle.paper.specs.Event.{how-many, events-of}
+use Rattle.paper.specs.Lamport.{lamports-left}
 use Rattle.paper.specs.Machine.{Clocked, start, answers, clocked}
 use Rattle.paper.specs.Order.{clock-of, verdict}
 use Rattle.paper.specs.Reading.{wrong-count, first-refused}
 use Rattle.paper.specs.Refusals.{first, Refusal, of-call, _then_, Outcome, outcome}
 use Rattle.paper.specs.Sheet.{written}
 
--- 4, 8, 9, events in order.
+-- 4, 8, 9, events in order, where `scant` tells whether 9 refuses.
+abbrev pub list-refusal-by : ℕ → List ℕ → Bool → Refusal
+list-refusal-by n list scant = of-call (list-checks n list scant) then first-refused 0 (answers n start (events-of list))
+
 unfoldable pub list-refusal : ℕ → List ℕ → Work → Refusal
-list-refusal n list w =
-    of-call (list-checks n list (short n (how-many list) w)) then first-refused 0 (answers n start (events-of list))
+list-refusal n list w = list-refusal-by n list (short n (how-many list) w)
 
 -- The work buffers after a call on a list.
 abbrev pub list-work : Refusal → ℕ → List ℕ → Work → Work
 list-work r n list w = after-call (r .number) n (how-many list) (clocked n start (events-of list)) w
 
 -- The strict course of a list, on which writing and questions build: how many values the stamps carry.
+abbrev pub strict-by : Refusal → ℕ → List ℕ → Work → Outcome ℕ × Work
+strict-by r n list w = (outcome r (entries (clocked n start (events-of list))), list-work r n list w)
+
 unfoldable pub strict : ℕ → List ℕ → Work → Outcome ℕ × Work
-strict n list w =
-    let r = list-refusal n list w in (
-      outcome r (entries (clocked n start (events-of list))),
-      list-work r n list w,
-    )
+strict n list w = strict-by (list-refusal n list w) n list w
+
+-- The same where Lamport numbers are asked for: 9 asks for m of them too.
+unfoldable pub strict-lamport : ℕ → List ℕ → Work → List ℕ → (Outcome ℕ × Work) × List ℕ
+strict-lamport n list w numbers =
+    let m = how-many list in
+    let r = list-refusal-by n list (short n m w || ltb (length numbers) m) in
+    (strict-by r n list w, lamports-left (r .number) m (clocked n start (events-of list)) numbers)
 
 -- Writing: 21 where the output has fewer bytes than the sheet to be written takes.
 pub record Written : Type 0 where

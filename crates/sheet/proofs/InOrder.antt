@@ -17,7 +17,7 @@ use Rattle.paper.specs.Questions.{list-refusal, strict, Written, writing-refusa
 use Rattle.paper.specs.Reading.{header-checks, wrong-count, first-refused, begins, stamps-refused, read-of, reading-refusal, reading}
 use Rattle.paper.specs.Refusals.{first, Refusal, of-call, _then_, Outcome, refused, done, outcome}
 use Rattle.paper.specs.Sheet.{processes-in, list-offset, list-size, list-in, stamps-in, pieces, written}
-use Rattle.paper.proofs.Laws.Refused.{after-done, after-early}
+use Rattle.paper.proofs.Laws.Refused.{after-done}
 use Rattle.paper.proofs.Sheets.Header.{Header, header-says}
 use Rattle.course.specs.Said.{late, of-list}
 use Rattle.course.proofs.Passed.{is-refused, passed-on, Passed, strict-passed, late-cleared, late-refused}
@@ -63,7 +63,7 @@ turn-small false false false false false false true = omega arith
 turn-small false false false false false false false = omega arith
 
 -- A header that refuses: its number, and nothing is written.
-small-number : (b : List ℕ) → header-checks b 0 ≤ 9
+pub small-number : (b : List ℕ) → header-checks b 0 ≤ 9
 unfolding header-checks
 small-number b =
     let p = parts-in b in
@@ -71,13 +71,6 @@ small-number b =
     (wrong-stamps (length b) (p .list) (p .stamps))
 
 module _ (b : List ℕ) (w : Work) where
-  pub head-refused : (r : ℕ) → header-checks b 0 ≡ r → r ≢ 0 → (refused (of-call r), w) ≡ reading b w
-  unfolding reading reading-refusal
-  head-refused r e h =
-      let k = first (short (processes-in b) (how-many (list-in b)) w) 9 0 in
-      let f : header-checks b k ≡ r = header-then b k ∙ rw (e, ne-eqb r 0 h) in
-      rw (f, ne-eqb r 0 h, ne-eqb r 0 h, after-early r (processes-in b) (how-many (list-in b)) (of-list (processes-in b) (list-in b)) w h (rw e at (small-number b)))
-
   module _ (ok : header-checks b 0 ≡ 0) where
     pub head : Header b
     head = header-says b 0 ((λ h. h), (λ h. h)) .0 ok .0
@@ -91,11 +84,11 @@ module _ (b : List ℕ) (w : Work) where
     pub list-long : length list ≡ list-size b
     list-long = length-take-le (list-size b) (drop (list-offset b) b) (omega (arith, length-drop (list-offset b) b, head .list-inside .1))
 
-    abbrev recorded : Refusal
+    abbrev pub recorded : Refusal
     recorded = stamps-refused 0 (pieces (of-list n list)) (stamps-in b)
 
     -- What is checked after the header.
-    list-then : reading-refusal b w ≡ (list-refusal n list w then recorded)
+    pub list-then : reading-refusal b w ≡ (list-refusal n list w then recorded)
     unfolding reading-refusal list-refusal
     list-then =
         let s = short n (how-many list) w in
@@ -119,7 +112,7 @@ module _ (b : List ℕ) (w : Work) where
         (λ r. after-call (r .number) n (how-many list) (of-list n list) w) given w′ h)
 
     module _ (w′ : Work) (p : Passed n list w w′) where
-      stamps-then : reading-refusal b w ≡ recorded
+      pub stamps-then : reading-refusal b w ≡ recorded
       stamps-then = list-then ∙ rw (p .none)
 
       pub stamps-refuse :
@@ -199,16 +192,16 @@ module _ (n : ℕ) (list : List ℕ) (w : Work) (out : List ℕ) where
 
 -- The reader over the parts that the header told, each cut from its offset to its end.
 module _ (b : List ℕ) (w w′ : Work) (p : Parts) (ok : header-checks b 0 ≡ 0) (e : p ≡ parts-in b) where
-  abbrev cut : Part → List ℕ
+  abbrev pub cut : Part → List ℕ
   cut q = take (q .offset + q .size - q .offset) (drop (q .offset) b)
 
   cut-is : (q : Part) → cut q ≡ take (q .size) (drop (q .offset) b)
   cut-is q = let z : q .offset + q .size - q .offset ≡ q .size = omega arith in rw z
 
-  count-is : p .processes ≡ processes-in b
+  pub count-is : p .processes ≡ processes-in b
   count-is = ap (λ (q : Parts). q .processes) e
 
-  list-is : cut (p .list) ≡ list-in b
+  pub list-is : cut (p .list) ≡ list-in b
   list-is = cut-is (p .list) ∙ ap (λ (q : Parts). take (q .list .size) (drop (q .list .offset) b)) e
 
   stamps-is : cut (p .stamps) ≡ stamps-in b
@@ -224,7 +217,7 @@ module _ (b : List ℕ) (w w′ : Work) (p : Parts) (ok : header-checks b 0 ≡ 
   course-refused given h = list-refused b w ok given w′ (h ∙ same-course)
 
   module _ (v : ℕ) (h : (done v, w′) ≡ strict (p .processes) (cut (p .list)) w) where
-    passed : Passed (processes-in b) (list-in b) w w′
+    pub passed : Passed (processes-in b) (list-in b) w w′
     passed = strict-passed (processes-in b) (list-in b) w w′ v (h ∙ same-course) .0
 
     pub slots-lent : Slots (cut (p .list)) (w′ .masks) (w′ .values)
@@ -236,7 +229,7 @@ module _ (b : List ℕ) (w w′ : Work) (p : Parts) (ok : header-checks b 0 ≡ 
       same-pieces : slot-pieces (cut (p .list)) (w′ .masks) (w′ .values) ≡ pieces (of-list (processes-in b) (list-in b))
       same-pieces = rw (list-is, passed .is) (pieces-there (processes-in b) (list-in b) (passed .given .accepted) w)
 
-      same-stamps : given ≡ recorded b w ok
+      pub same-stamps : given ≡ recorded b w ok
       same-stamps = found ∙ ap₂ (λ (ts : List (List ℕ)) (s : List ℕ). stamps-refused 0 ts s) same-pieces stamps-is
 
       pub stamps-differ : given .number ≢ 0 → (refused given, w″) ≡ reading b w

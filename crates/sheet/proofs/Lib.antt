@@ -2,6 +2,7 @@ pub mod Checks
 pub mod Compared
 pub mod Filled
 pub mod InOrder
+pub mod WithNumbers
 pub mod Slots
 pub mod Stored
 pub mod ReadBack

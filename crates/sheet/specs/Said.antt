@@ -40,6 +40,10 @@ wrote (writing.Done m k) = done (record { events = m; bytes = k })
 abbrev pub Reads : List ℕ → Work → declared-read.Reading → Work → Type 0
 Reads b w r w′ = (told b r, w′) ≡ read.reading b w
 
+-- What the reader of Lamport numbers promises: from the sheet b, the work buffers w and `numbers` it gives r and leaves w′ and numbers′.
+abbrev pub Numbers : List ℕ → Work → List ℕ → declared-read.Reading → Work → List ℕ → Type 0
+Numbers b w numbers r w′ numbers′ = ((told b r, w′), numbers′) ≡ read.reading-lamport b w numbers
+
 -- What the writer promises: from n processes, the list, the work buffers w and the output out it gives r and leaves w′ and out′.
 abbrev pub Writes : ℕ → List ℕ → Work → List ℕ → declared-wrote.Wrote → Work → List ℕ → Type 0
 Writes n list w out r w′ out′ = (wrote r, w′, out′) ≡ questions.writing n list w out

@@ -5,8 +5,11 @@ mod reader;
 mod stamps;
 mod writer;
 
+ghost use mathlib.Core.Path.{_≡_};
 ghost use Rattle.course.specs.Said.{work};
-ghost use Rattle.sheet.specs.Said.{Reads, Where, Writes};
+ghost use Rattle.paper.specs.Refusals.{of-call};
+ghost use Rattle.clock.specs.Said.{refusal};
+ghost use Rattle.sheet.specs.Said.{Reads, Numbers, Where, Writes};
 use clock::Position;
 use clock::Refusal;
 use course::Judged;
@@ -32,19 +35,47 @@ pub enum Wrote {
     Done(usize, usize),
 }
 
-// Reading: 1 to 7, 9, events in order, then stamps.
+// A refusal that concerns no event.
+fn of_call(number: u8) -> Refusal
+    ensures { λ r. ⌜ refusal r ≡ of-call number ⌝ }
+{
+    Refusal {
+        number: number,
+        position: Position(0),
+    }
+}
+
+// Reading: 1 to 7, 9, events in order, then stamps; with the Lamport numbers of an accepted sheet's events.
+pub fn read_lamport(
+    sheet: &[u8],
+    clocks: &mut [u16],
+    masks: &mut [u32],
+    values: &mut [u16],
+    lamports: &mut [u16],
+) -> Reading
+    ensures { λ r. ⌜ Numbers (now (sheet .entry)) (work (now (clocks .entry)) (now (masks .entry)) (now (values .entry))) (now (lamports .entry))
+        r (work (now (clocks .exit)) (now (masks .exit)) (now (values .exit))) (now (lamports .exit)) ⌝ }
+    ensures { λ r. ⌜ Where (now (sheet .entry)) r ⌝ }
+{
+    match header::head(sheet) {
+        Heading::Refused(number) => Reading::Refused(of_call(number)),
+        Heading::Found(p) => {
+            if lamports.len() < p.list.size / 8 {
+                return Reading::Refused(of_call(9));
+            }
+            reader::judged(sheet, p, clocks, masks, values, lamports)
+        }
+    }
+}
+
+// Reading where no Lamport numbers are asked for.
 pub fn read(sheet: &[u8], clocks: &mut [u16], masks: &mut [u32], values: &mut [u16]) -> Reading
     ensures { λ r. ⌜ Reads (now (sheet .entry)) (work (now (clocks .entry)) (now (masks .entry)) (now (values .entry)))
         r (work (now (clocks .exit)) (now (masks .exit)) (now (values .exit))) ⌝ }
     ensures { λ r. ⌜ Where (now (sheet .entry)) r ⌝ }
 {
-    match header::head(sheet) {
-        Heading::Refused(number) => Reading::Refused(Refusal {
-            number: number,
-            position: Position(0),
-        }),
-        Heading::Found(p) => reader::judged(sheet, p, clocks, masks, values),
-    }
+    let mut lamports = [0u16; 512];
+    read_lamport(sheet, clocks, masks, values, &mut lamports)
 }
 
 // Writing: 4, 8, 9, events in order, 21; the events at 24, the stamps straight after.

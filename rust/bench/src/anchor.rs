@@ -108,6 +108,7 @@ impl<'a, const WIDE: bool> Anchor<'a, WIDE> {
                 clocks: &mut work.clocks[..n * m],
                 masks: &mut work.masks[..m],
                 values: &mut work.values[..n * m],
+                lamports: None,
             },
             accepted: 0,
             entries: 0,

@@ -57,6 +57,7 @@ impl Buffers {
             clocks: &mut self.clocks,
             masks: &mut self.masks,
             values: &mut self.values,
+            lamports: None,
         };
         (work, &mut self.answers)
     }

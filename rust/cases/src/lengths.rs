@@ -51,7 +51,7 @@ impl WorkLengths {
     }
 }
 
-/// The length of an output or of the answers: mostly enough, exactly or more.
+/// The length of an output, of the answers or of the Lamport numbers: mostly enough, exactly or more.
 pub fn chosen_length(needed: usize, random: &mut Random) -> usize {
     if random.one_in(10) {
         too_short(needed, random)

@@ -18,16 +18,20 @@ use random::Random;
 pub enum Call {
     #[default]
     Read,
+    ReadLamport,
     Class,
+    ClassLamport,
     Write,
     Compare,
     Chain,
     Order,
 }
 
-pub const ALL_CALLS: [Call; 6] = [
+pub const ALL_CALLS: [Call; 8] = [
     Call::Read,
+    Call::ReadLamport,
     Call::Class,
+    Call::ClassLamport,
     Call::Write,
     Call::Compare,
     Call::Chain,
@@ -42,6 +46,8 @@ pub struct Case {
     /// The sheet or the list.
     pub input: Vec<u8>,
     pub work: WorkLengths,
+    /// Slots lent for the Lamport numbers.
+    pub lamports: usize,
     /// Slots lent for the answers of class mode, for the written sheet, or for the chain.
     pub output: usize,
     pub positions: (usize, usize),
@@ -51,12 +57,14 @@ pub struct Case {
 /// The case of a seed; the same seed always gives the same case.
 pub fn case_of(seed: u64) -> Case {
     let mut random = Random::new(seed);
-    match random.below(20) {
+    match random.below(31) {
         0..=6 => readings::case(&mut random),
         7..=10 => lists::class_case(&mut random),
         11..=13 => lists::write_case(&mut random),
         14..=15 => lists::compare_case(&mut random),
         16..=18 => lists::chain_case(&mut random),
+        19..=24 => readings::lamport_case(&mut random),
+        25..=29 => lists::class_lamport_case(&mut random),
         _ => orders::case(&mut random),
     }
 }

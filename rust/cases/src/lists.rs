@@ -28,6 +28,13 @@ pub fn class_case(random: &mut Random) -> Case {
     case
 }
 
+pub fn class_lamport_case(random: &mut Random) -> Case {
+    let mut case = class_case(random);
+    case.call = Call::ClassLamport;
+    case.lamports = chosen_length(case.work_needed().masks, random);
+    case
+}
+
 pub fn write_case(random: &mut Random) -> Case {
     let bad = seldom_bad(random);
     let mut case = case_with_list(Call::Write, bad, random);

@@ -5,13 +5,40 @@ use second::judge::{each_offer, only_accepted};
 use second::sheet::{header_bytes, stamp_bytes, HEADER_SIZE};
 
 use crate::damages::{flip_bytes, leave_over, move_end, spoil_header, spoil_stamps, HEADER_CHECKS};
-use crate::lengths::WorkLengths;
+use crate::lengths::{chosen_length, WorkLengths};
 use crate::lists::{made_list, seldom_bad};
 use crate::random::Random;
 use crate::sheets::{place, Placed};
 use crate::{Call, Case};
 
+/// A sheet and what it needed before it was damaged.
+struct LentSheet {
+    sheet: Vec<u8>,
+    needed: WorkLengths,
+}
+
 pub fn case(random: &mut Random) -> Case {
+    let lent = some_sheet(random);
+    Case {
+        call: Call::Read,
+        work: WorkLengths::chosen(lent.needed, random),
+        input: lent.sheet,
+        ..Case::default()
+    }
+}
+
+pub fn lamport_case(random: &mut Random) -> Case {
+    let lent = some_sheet(random);
+    Case {
+        call: Call::ReadLamport,
+        work: WorkLengths::chosen(lent.needed, random),
+        lamports: chosen_length(lent.needed.masks, random),
+        input: lent.sheet,
+        ..Case::default()
+    }
+}
+
+fn some_sheet(random: &mut Random) -> LentSheet {
     if random.one_in(25) {
         return garbage(random);
     }
@@ -26,8 +53,10 @@ pub fn case(random: &mut Random) -> Case {
     }
     let mut sheet = place(made.processes, &made.list, &stamps, random);
     damage(&mut sheet, random);
-    let needed = WorkLengths::needed(n, made.list.len() / RECORD_SIZE);
-    reading_of(sheet.bytes, WorkLengths::chosen(needed, random))
+    LentSheet {
+        sheet: sheet.bytes,
+        needed: WorkLengths::needed(n, made.list.len() / RECORD_SIZE),
+    }
 }
 
 /// A third of the sheets are damaged outside their parts, some of them twice.
@@ -46,7 +75,7 @@ fn damage(sheet: &mut Placed, random: &mut Random) {
 }
 
 /// Random bytes, alone or behind a good header.
-fn garbage(random: &mut Random) -> Case {
+fn garbage(random: &mut Random) -> LentSheet {
     let length = random.below(200);
     let mut sheet = random.bytes(length);
     if random.one_in(2) {
@@ -54,14 +83,8 @@ fn garbage(random: &mut Random) -> Case {
         let stamps = events.end..HEADER_SIZE + length;
         sheet.splice(0..0, header_bytes(3, &events, &stamps));
     }
-    reading_of(sheet, WorkLengths::needed(3, length / RECORD_SIZE))
-}
-
-fn reading_of(sheet: Vec<u8>, work: WorkLengths) -> Case {
-    Case {
-        call: Call::Read,
-        input: sheet,
-        work,
-        ..Case::default()
+    LentSheet {
+        sheet,
+        needed: WorkLengths::needed(3, length / RECORD_SIZE),
     }
 }

@@ -53,9 +53,9 @@ fn the_same_seed_gives_the_same_case() {
 fn sheets_of_other_layouts_are_mostly_read() {
     let readings = (0..2_000)
         .map(|index| case_of(seed_of_case(4, index)))
-        .filter(|case| case.call == Call::Read);
+        .filter(|case| matches!(case.call, Call::Read | Call::ReadLamport));
     let (accepted, refused): (Vec<_>, Vec<_>) = readings
-        .map(|case| second::text::listing(&case.input).output)
+        .map(|case| second::text::listing(&[], &case.input).output)
         .partition(|printed| printed.starts_with(b"events "));
     assert!(accepted.len() > 150 && refused.len() > 150);
 }

@@ -13,6 +13,7 @@ pub struct Desk {
     clocks: Lent<u16>,
     masks: Lent<u32>,
     values: Lent<u16>,
+    lamports: Lent<u16>,
     /// The answers of class mode, or the written sheet.
     bytes: Lent<u8>,
     chain: Lent<u16>,
@@ -31,6 +32,7 @@ impl Desk {
             clocks: Lent::unwritten(case.work.clocks, around),
             masks: Lent::unwritten(case.work.masks, around),
             values: Lent::unwritten(case.work.values, around),
+            lamports: Lent::unwritten(case.lamports, around),
             bytes: Lent::unwritten(bytes, around),
             chain: Lent::unwritten(chain, around),
             first_clock: Lent::holding(&case.clocks.0, around),
@@ -47,7 +49,15 @@ impl Desk {
         let asked = case.positions;
         match case.call {
             Call::Read => raw::read(input, clocks, masks, values),
+            Call::ReadLamport => {
+                raw::read_lamport(input, clocks, masks, values, self.lamports.lend())
+            }
             Call::Class => raw::class(n, input, clocks, masks, values, self.bytes.lend()),
+            Call::ClassLamport => {
+                let answers = self.bytes.lend();
+                let lamports = self.lamports.lend();
+                raw::class_lamport(n, input, clocks, masks, values, answers, lamports)
+            }
             Call::Write => raw::write(n, input, clocks, masks, values, self.bytes.lend()),
             Call::Compare => raw::compare(n, input, clocks, masks, values, asked),
             Call::Chain => {
@@ -65,11 +75,17 @@ impl Desk {
             clocks: self.clocks.lend(),
             masks: self.masks.lend(),
             values: self.values.lend(),
+            lamports: None,
         };
         let (first, second) = case.positions;
         match case.call {
             Call::Read => packed::read(input, work),
+            Call::ReadLamport => packed::read_lamport(input, work, self.lamports.lend()),
             Call::Class => packed::class(n, input, work, self.bytes.lend()),
+            Call::ClassLamport => {
+                let lamports = self.lamports.lend();
+                packed::class_lamport(n, input, work, self.bytes.lend(), lamports)
+            }
             Call::Write => packed::write(n, input, work, self.bytes.lend()),
             Call::Compare => packed::compare(n, input, work, first, second),
             Call::Chain => packed::chain(n, input, work, first, second, self.chain.lend()),
@@ -79,7 +95,7 @@ impl Desk {
 
     pub fn answers(&self, case: &Case) -> Vec<u8> {
         match case.call {
-            Call::Class => self.bytes.contents().to_vec(),
+            Call::Class | Call::ClassLamport => self.bytes.contents().to_vec(),
             _ => Vec::new(),
         }
     }
@@ -91,6 +107,7 @@ impl Desk {
             (self.clocks.guards_hold(), "clocks"),
             (self.masks.guards_hold(), "masks"),
             (self.values.guards_hold(), "values"),
+            (self.lamports.guards_hold(), "lamports"),
             (self.bytes.guards_hold(), "answers or sheet"),
             (self.chain.guards_hold(), "chain"),
             (self.first_clock.guards_hold(), "first clock"),
@@ -113,6 +130,7 @@ impl Desk {
             ("clocks", self.clocks.first_difference(&second.clocks)),
             ("masks", self.masks.first_difference(&second.masks)),
             ("values", self.values.first_difference(&second.values)),
+            ("lamports", self.lamports.first_difference(&second.lamports)),
             (
                 "answers or sheet",
                 self.bytes.first_difference(&second.bytes),

@@ -34,6 +34,7 @@ fn text(seed: u64, case: &Case, difference: &Difference) -> String {
         format!("clock slots {}", work.clocks),
         format!("mask slots {}", work.masks),
         format!("value slots {}", work.values),
+        format!("lamport slots {}", case.lamports),
         format!("output slots {}", case.output),
         format!("positions {first} {second}"),
         format!("first clock {:?}", case.clocks.0),

@@ -27,6 +27,15 @@ pub struct Tally {
 
 const LONGEST_TOLD_CHAIN: usize = 3;
 
+/// The calls whose answer has the number of events in y.
+const COUNTING_EVENTS: [Call; 5] = [
+    Call::Read,
+    Call::ReadLamport,
+    Call::Class,
+    Call::ClassLamport,
+    Call::Write,
+];
+
 impl Tally {
     pub fn add(&mut self, case: &Case, agreed: &Agreed) {
         let answer = Answer::unpack(agreed.packed);
@@ -41,13 +50,17 @@ impl Tally {
         match call {
             Call::Compare | Call::Order => self.count(Seen::Verdict(call, answer.x)),
             Call::Chain => self.count(Seen::ChainLength(answer.z.min(LONGEST_TOLD_CHAIN))),
-            Call::Class => self.add_offers(case, agreed),
-            Call::Read | Call::Write => {}
+            Call::Class | Call::ClassLamport => self.add_offers(case, agreed),
+            Call::Read | Call::ReadLamport | Call::Write => {}
         }
-        if matches!(call, Call::Read | Call::Write | Call::Class) && answer.y == MOST_EVENTS {
+        if COUNTING_EVENTS.contains(&call) && answer.y == MOST_EVENTS {
             self.count(Seen::MostEvents(call));
         }
-        if case.processes == MOST_PROCESSES || (call == Call::Read && answer.x == MOST_PROCESSES) {
+        let processes = match call {
+            Call::Read | Call::ReadLamport => answer.x,
+            _ => case.processes,
+        };
+        if processes == MOST_PROCESSES {
             self.count(Seen::MostProcesses(call));
         }
     }
@@ -81,7 +94,7 @@ impl Tally {
             wanted.push(Seen::Verdict(Call::Order, verdict));
         }
         wanted.extend((0..=LONGEST_TOLD_CHAIN).map(Seen::ChainLength));
-        for call in [Call::Read, Call::Class, Call::Write] {
+        for call in COUNTING_EVENTS {
             wanted.push(Seen::MostEvents(call));
             wanted.push(Seen::MostProcesses(call));
         }
@@ -100,10 +113,10 @@ impl Tally {
 
 fn numbers_of(call: Call) -> &'static [u8] {
     match call {
-        Call::Read => &[
+        Call::Read | Call::ReadLamport => &[
             0, 1, 2, 3, 4, 5, 6, 7, 9, 10, 11, 12, 13, 14, 15, 16, 18, 19,
         ],
-        Call::Class => &[0, 4, 8, 9],
+        Call::Class | Call::ClassLamport => &[0, 4, 8, 9],
         Call::Write => &[0, 4, 8, 9, 10, 11, 12, 13, 14, 15, 16, 21],
         Call::Compare => &[0, 4, 8, 9, 10, 11, 12, 13, 14, 15, 16, 20],
         Call::Chain => &[0, 4, 8, 9, 10, 11, 12, 13, 14, 15, 16, 20, 21, 22],

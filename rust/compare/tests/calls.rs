@@ -43,6 +43,7 @@ fn case_of(text: &str) -> (Case, String) {
             "processes" => case.processes = numbers(rest)[0],
             "input" => case.input = fs::read(Path::new(BOX).join(rest)).unwrap(),
             "work" => case.work = work_of(&numbers(rest)),
+            "lamports" => case.lamports = numbers(rest)[0],
             "output" => case.output = numbers(rest)[0],
             "positions" => case.positions = (numbers(rest)[0], numbers(rest)[1]),
             "gives" => gives = rest.to_string(),
@@ -55,7 +56,9 @@ fn case_of(text: &str) -> (Case, String) {
 fn call_of(name: &str) -> Call {
     match name {
         "read" => Call::Read,
+        "read_lamport" => Call::ReadLamport,
         "class" => Call::Class,
+        "class_lamport" => Call::ClassLamport,
         "write" => Call::Write,
         "compare" => Call::Compare,
         "chain" => Call::Chain,

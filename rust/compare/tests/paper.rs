@@ -3,9 +3,13 @@
 use cases::lengths::WorkLengths;
 use cases::{Call, Case, ALL_CALLS};
 use compare::run;
-use oboefinch::{chain, class, compare, order, read, write, Refusal, Verdict};
+use oboefinch::{
+    chain, class, class_lamport, compare, order, read, read_lamport, write, Refusal, Verdict,
+};
 use second::event::{list_of, Event};
-use second::examples::{events_of_b, list_a, PROCESSES_OF_A, PROCESSES_OF_B, SHEET_A};
+use second::examples::{
+    events_of_b, list_a, LAMPORTS_OF_A, PROCESSES_OF_A, PROCESSES_OF_B, SHEET_A,
+};
 use second::sheet::{compose, header_bytes};
 use second::text;
 
@@ -40,6 +44,43 @@ fn examples_1_and_2_clocks_and_masks_of_a() {
     assert_eq!((reading.processes(), reading.entries()), (3, 6));
     assert_eq!(reading.values(5), [4, 1]);
     assert_eq!(reading.values(4), [0u16; 0]);
+}
+
+#[test]
+fn lamport_numbers_of_a() {
+    let (reading, of_read) = read_lamport(SHEET_A).unwrap();
+    assert_eq!(of_read, LAMPORTS_OF_A);
+    assert_eq!(Ok(reading), read(SHEET_A));
+    let (classed, of_class) = class_lamport(PROCESSES_OF_A, list_a()).unwrap();
+    assert_eq!(of_class, LAMPORTS_OF_A);
+    assert_eq!(Ok(classed), class(PROCESSES_OF_A, list_a()));
+}
+
+/// A refused offer has no number and leaves the numbers of the others alone.
+#[test]
+fn lamport_numbers_stand_by_accepted_offers_only() {
+    let offers = [
+        Event::internal(0),
+        Event::send(0, 1, 1),
+        Event::receive(1, 0, 2),
+        Event::receive(1, 0, 1),
+        Event::internal(2),
+        Event::internal(0),
+    ];
+    let (classed, lamports) = class_lamport(2, &list_of(&offers)).unwrap();
+    assert_eq!(classed.answers, [0, 0, 15, 0, 11, 0]);
+    assert_eq!(lamports, [1, 2, 3, 3]);
+}
+
+#[test]
+fn both_sides_agree_on_every_room_for_lamport_numbers() {
+    for call in [Call::ReadLamport, Call::ClassLamport] {
+        for lamports in 0..12 {
+            let mut case = case_of_a(call, (0, 0));
+            case.lamports = lamports;
+            agree(&case);
+        }
+    }
 }
 
 #[test]
@@ -132,7 +173,7 @@ fn both_sides_agree_on_every_pair_of_sheet_a() {
 
 fn case_of_a(call: Call, positions: (usize, usize)) -> Case {
     let input = match call {
-        Call::Read => SHEET_A.to_vec(),
+        Call::Read | Call::ReadLamport => SHEET_A.to_vec(),
         _ => list_a().to_vec(),
     };
     Case {
@@ -140,6 +181,7 @@ fn case_of_a(call: Call, positions: (usize, usize)) -> Case {
         processes: PROCESSES_OF_A,
         input,
         work: WorkLengths::needed(PROCESSES_OF_A, 8),
+        lamports: 10,
         output: 512,
         positions,
         clocks: (vec![1, 0, 0], vec![0, 0, 1]),
@@ -150,10 +192,12 @@ fn case_of_a(call: Call, positions: (usize, usize)) -> Case {
 fn both_sides_agree_on_sheet_a_with_each_bit_changed() {
     for place in 0..SHEET_A.len() {
         for bit in 0..8 {
-            let mut case = case_of_a(Call::Read, (0, 0));
-            case.input[place] ^= 1 << bit;
-            case.work = WorkLengths::needed(32, 16);
-            agree(&case);
+            for call in [Call::Read, Call::ReadLamport] {
+                let mut case = case_of_a(call, (0, 0));
+                case.input[place] ^= 1 << bit;
+                case.work = WorkLengths::needed(32, 16);
+                agree(&case);
+            }
         }
     }
 }
@@ -161,16 +205,18 @@ fn both_sides_agree_on_sheet_a_with_each_bit_changed() {
 #[test]
 fn both_sides_agree_on_sheet_a_cut_and_lengthened() {
     for length in 0..160 {
-        let mut case = case_of_a(Call::Read, (0, 0));
-        case.input.resize(length, 0);
-        agree(&case);
+        for call in [Call::Read, Call::ReadLamport] {
+            let mut case = case_of_a(call, (0, 0));
+            case.input.resize(length, 0);
+            agree(&case);
+        }
     }
 }
 
 #[test]
 fn a_refusal_reads_as_the_programs_print_it() {
     let spoilt = &SHEET_A[..23];
-    let printed = text::listing(spoilt).output;
+    let printed = text::listing(&[], spoilt).output;
     let refusal = read(spoilt).unwrap_err();
     let line = format!("refused {} at {}\n", refusal.number, refusal.position);
     assert_eq!(printed, line.as_bytes());

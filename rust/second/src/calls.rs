@@ -1,4 +1,4 @@
-//! The six calls on lent buffers.
+//! The calls on lent buffers.
 
 use crate::clock::{is_process_count, verdict, Verdict};
 use crate::event::{MOST_EVENTS, MOST_LIST_BYTES, RECORD_SIZE};
@@ -14,14 +14,24 @@ pub struct Work<'a> {
     pub clocks: &'a mut [u16],
     pub masks: &'a mut [u32],
     pub values: &'a mut [u16],
+    /// Lent where Lamport numbers are asked for.
+    pub lamports: Option<&'a mut [u16]>,
 }
 
-impl Work<'_> {
-    /// Check 9: "n times m clock slots, m masks, n times m values".
+impl<'a> Work<'a> {
+    fn asked_for(self, lamports: &'a mut [u16]) -> Self {
+        Work {
+            lamports: Some(lamports),
+            ..self
+        }
+    }
+
+    /// Check 9: "n times m clock slots, m masks, n times m values", and m slots for the Lamport numbers, "when asked for".
     fn check_room(&self, n: usize, m: usize) -> Result<(), Refusal> {
         let has_room =
             self.clocks.len() >= n * m && self.masks.len() >= m && self.values.len() >= n * m;
-        if has_room {
+        let has_room_for_lamports = self.lamports.as_ref().is_none_or(|slots| slots.len() >= m);
+        if has_room && has_room_for_lamports {
             Ok(())
         } else {
             Err(Check::WorkLength.of_no_event())
@@ -33,6 +43,9 @@ impl Work<'_> {
         self.clocks[..n * m].fill(0);
         self.masks[..m].fill(0);
         self.values[..n * m].fill(0);
+        if let Some(lamports) = &mut self.lamports {
+            lamports[..m].fill(0);
+        }
     }
 
     /// "the clocks of accepted events stand one after another, n slots each, and their masks likewise".
@@ -43,6 +56,11 @@ impl Work<'_> {
         }
         let carried = carried_values(accepted);
         self.values[..carried.len()].copy_from_slice(&carried);
+        if let Some(lamports) = &mut self.lamports {
+            for (slot, one) in lamports.iter_mut().zip(accepted) {
+                *slot = one.lamport;
+            }
+        }
     }
 }
 
@@ -81,6 +99,15 @@ pub fn read(sheet: &[u8], mut work: Work) -> Result<Reading, Refusal> {
     })
 }
 
+/// As `read`, with Lamport numbers asked for.
+pub fn read_lamport<'a>(
+    sheet: &[u8],
+    work: Work<'a>,
+    lamports: &'a mut [u16],
+) -> Result<Reading, Refusal> {
+    read(sheet, work.asked_for(lamports))
+}
+
 /// Checks 4, 8, 9; then an answer for each offer.
 pub fn class(
     n: usize,
@@ -107,6 +134,17 @@ pub fn class(
         accepted: accepted.len(),
         entries: carried_values(&accepted).len(),
     })
+}
+
+/// As `class`, with Lamport numbers asked for.
+pub fn class_lamport<'a>(
+    n: usize,
+    list: &[u8],
+    work: Work<'a>,
+    answers: &mut [u8],
+    lamports: &'a mut [u16],
+) -> Result<Classed, Refusal> {
+    class(n, list, work.asked_for(lamports), answers)
 }
 
 /// Checks 4, 8, 9, events in order, then 21.

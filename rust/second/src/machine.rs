@@ -1,4 +1,4 @@
-//! The plain machine: a whole clock for each process, the numbers already sent, and the queues.
+//! The plain machine: a whole clock and a Lamport clock for each process, the numbers already sent, and the queues.
 
 use std::collections::{BTreeSet, VecDeque};
 
@@ -10,11 +10,15 @@ use crate::Check;
 struct Message {
     number: u16,
     clock: Clock,
+    /// "it piggybacks on m the value t" (LC2, source document 004).
+    t: u16,
 }
 
 pub struct Machine {
     processes: usize,
     clocks: Vec<Clock>,
+    /// The L of each process (LC1 and LC2, source document 004).
+    lamports: Vec<u16>,
     used_numbers: BTreeSet<u16>,
     /// By sender, then by addressee.
     queues: Vec<Vec<VecDeque<Message>>>,
@@ -22,11 +26,12 @@ pub struct Machine {
     clocks_at_previous_send: Vec<Vec<Clock>>,
 }
 
-/// An accepted event with its clock; the stamp is empty unless it is a send.
+/// An accepted event with its clock and its Lamport number; the stamp is empty unless it is a send.
 #[derive(Clone, Debug)]
 pub struct Accepted {
     pub event: Event,
     pub clock: Clock,
+    pub lamport: u16,
     pub stamp: Stamp,
 }
 
@@ -36,6 +41,7 @@ impl Machine {
         Machine {
             processes: n,
             clocks: vec![ZERO; n],
+            lamports: vec![0; n],
             used_numbers: BTreeSet::new(),
             queues: (0..n).map(|_| no_queues()).collect(),
             clocks_at_previous_send: vec![vec![ZERO; n]; n],
@@ -48,6 +54,8 @@ impl Machine {
         self.check_traffic(&event)?;
         let process = usize::from(event.process);
         self.clocks[process][process] += 1;
+        self.take_in_t(&event);
+        self.lamports[process] += 1;
         let stamp = match event.kind {
             SEND => self.send(&event),
             RECEIVE => self.receive(&event),
@@ -56,6 +64,7 @@ impl Machine {
         Ok(Accepted {
             event,
             clock: self.clocks[process],
+            lamport: self.lamports[process],
             stamp,
         })
     }
@@ -82,6 +91,18 @@ impl Machine {
         }
     }
 
+    /// "On receiving (m, t), a process computes L := max(L, t) and then applies LC1".
+    fn take_in_t(&mut self, event: &Event) {
+        if event.kind != RECEIVE {
+            return;
+        }
+        let receiver = usize::from(event.process);
+        let queue = &self.queues[usize::from(event.peer)][receiver];
+        if let Some(message) = queue.front() {
+            self.lamports[receiver] = self.lamports[receiver].max(message.t);
+        }
+    }
+
     fn send(&mut self, event: &Event) -> Stamp {
         let sender = usize::from(event.process);
         let addressee = usize::from(event.peer);
@@ -93,6 +114,7 @@ impl Machine {
         self.queues[sender][addressee].push_back(Message {
             number: event.message,
             clock,
+            t: self.lamports[sender],
         });
         stamp
     }

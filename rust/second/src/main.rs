@@ -30,7 +30,7 @@ fn main() -> ExitCode {
 fn run(words: &[&str], input: &[u8]) -> Option<Printed> {
     let (program, arguments) = words.split_first()?;
     match *program {
-        "listing" => Some(text::listing(input)),
+        "listing" => Some(text::listing(arguments, input)),
         "compare" => Some(text::compare(arguments, input)),
         "chain" => Some(text::chain(arguments, input)),
         "class" => Some(text::class(arguments, input)),

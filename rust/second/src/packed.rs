@@ -1,20 +1,28 @@
-//! The six calls with the answer packed into one number, as the C calls give it.
+//! The calls with the answer packed into one number, as the C calls give it.
 
-use crate::calls::{self, Work};
+use crate::calls::{self, Classed, Reading, Work};
 use crate::Refusal;
 
 pub fn read(sheet: &[u8], work: Work) -> u64 {
-    match calls::read(sheet, work) {
-        Ok(reading) => pack(0, reading.processes, reading.events, reading.entries),
-        Err(refusal) => refused(refusal),
-    }
+    reading(calls::read(sheet, work))
+}
+
+pub fn read_lamport<'a>(sheet: &[u8], work: Work<'a>, lamports: &'a mut [u16]) -> u64 {
+    reading(calls::read_lamport(sheet, work, lamports))
 }
 
 pub fn class(n: usize, list: &[u8], work: Work, answers: &mut [u8]) -> u64 {
-    match calls::class(n, list, work, answers) {
-        Ok(classed) => pack(0, 0, classed.accepted, classed.entries),
-        Err(refusal) => refused(refusal),
-    }
+    classed(calls::class(n, list, work, answers))
+}
+
+pub fn class_lamport<'a>(
+    n: usize,
+    list: &[u8],
+    work: Work<'a>,
+    answers: &mut [u8],
+    lamports: &'a mut [u16],
+) -> u64 {
+    classed(calls::class_lamport(n, list, work, answers, lamports))
 }
 
 pub fn write(n: usize, list: &[u8], work: Work, output: &mut [u8]) -> u64 {
@@ -48,6 +56,20 @@ pub fn chain(
 pub fn order(first: &[u16], second: &[u16]) -> u64 {
     match calls::order(first, second) {
         Ok(verdict) => pack(0, verdict as usize, 0, 0),
+        Err(refusal) => refused(refusal),
+    }
+}
+
+fn reading(outcome: Result<Reading, Refusal>) -> u64 {
+    match outcome {
+        Ok(reading) => pack(0, reading.processes, reading.events, reading.entries),
+        Err(refusal) => refused(refusal),
+    }
+}
+
+fn classed(outcome: Result<Classed, Refusal>) -> u64 {
+    match outcome {
+        Ok(classed) => pack(0, 0, classed.accepted, classed.entries),
         Err(refusal) => refused(refusal),
     }
 }

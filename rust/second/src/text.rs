@@ -13,8 +13,14 @@ pub struct Printed {
     pub error: Vec<u8>,
 }
 
-pub fn listing(input: &[u8]) -> Printed {
-    text_or_refusal(read_sheet(input).map(|(n, accepted)| listing_text(n, &accepted)))
+/// The word `lamport` asks for each event's Lamport number as a last field.
+pub fn listing(arguments: &[&str], input: &[u8]) -> Printed {
+    let line = match arguments.first() {
+        None => event_line,
+        Some(&"lamport") => event_line_with_lamport,
+        Some(_) => return usage("listing [lamport]"),
+    };
+    text_or_refusal(read_sheet(input).map(|(n, accepted)| listing_text(n, &accepted, line)))
 }
 
 pub fn compare(arguments: &[&str], input: &[u8]) -> Printed {
@@ -66,12 +72,13 @@ fn read_sheet(input: &[u8]) -> Result<(usize, Vec<Accepted>), Refusal> {
     Ok((header.processes, accepted))
 }
 
-fn listing_text(n: usize, accepted: &[Accepted]) -> String {
+fn listing_text(n: usize, accepted: &[Accepted], line: EventLine) -> String {
     let entries = carried_values(accepted).len();
     let events = accepted.len();
     let mut text = format!("events {events} processes {n} entries {entries}\n");
     for (position, one) in accepted.iter().enumerate() {
-        text += &event_line(position, n, one);
+        text += &line(position, n, one);
+        text += "\n";
     }
     text
 }
@@ -88,11 +95,14 @@ fn class_text(n: usize, list: &[u8]) -> String {
     for (position, offer) in offers.iter().enumerate() {
         text += &match offer {
             Ok(one) => event_line(position, n, one),
-            Err(check) => format!("{position} refused {}\n", check.number()),
+            Err(check) => format!("{position} refused {}", check.number()),
         };
+        text += "\n";
     }
     text
 }
+
+type EventLine = fn(usize, usize, &Accepted) -> String;
 
 /// "Fields: position, kind (I, S, R), process, peer, message, mask, then the n components."
 fn event_line(position: usize, n: usize, one: &Accepted) -> String {
@@ -109,7 +119,11 @@ fn event_line(position: usize, n: usize, one: &Accepted) -> String {
     for component in &one.clock[..n] {
         line += &format!(" {component}");
     }
-    line + "\n"
+    line
+}
+
+fn event_line_with_lamport(position: usize, n: usize, one: &Accepted) -> String {
+    format!("{} {}", event_line(position, n, one), one.lamport)
 }
 
 fn refusal_line(refusal: Refusal) -> String {

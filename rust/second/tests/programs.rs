@@ -1,7 +1,7 @@
 //! What the five programs print.
 
 use second::event::{list_of, Event};
-use second::examples::{list_a, LISTING_OF_A, SHEET_A};
+use second::examples::{list_a, LAMPORTS_OF_A, LISTING_OF_A, SHEET_A};
 use second::text::{chain, class, compare, listing, write, Printed};
 
 fn on_output(text: &str) -> Printed {
@@ -20,12 +20,33 @@ fn on_error(text: &str) -> Printed {
 
 #[test]
 fn listing_prints_the_listing_or_the_refusal() {
-    assert_eq!(listing(SHEET_A), on_output(LISTING_OF_A));
-    assert_eq!(listing(&[]), on_output("refused 1 at 0\n"));
-    assert_eq!(listing(&[0; 40_961]), on_output("refused 1 at 0\n"));
+    assert_eq!(listing(&[], SHEET_A), on_output(LISTING_OF_A));
+    assert_eq!(listing(&[], &[]), on_output("refused 1 at 0\n"));
+    assert_eq!(listing(&[], &[0; 40_961]), on_output("refused 1 at 0\n"));
     let mut spoilt = *SHEET_A;
     spoilt[108] = 7;
-    assert_eq!(listing(&spoilt), on_output("refused 18 at 5\n"));
+    assert_eq!(listing(&[], &spoilt), on_output("refused 18 at 5\n"));
+}
+
+#[test]
+fn listing_lamport_adds_a_last_field() {
+    let mut expected = String::new();
+    let mut fields = LAMPORTS_OF_A.iter();
+    for (place, line) in LISTING_OF_A.lines().enumerate() {
+        expected += line;
+        if place > 0 {
+            expected += &format!(" {}", fields.next().unwrap());
+        }
+        expected += "\n";
+    }
+    assert!(expected.ends_with("7 R 0 1 4 0 3 4 1 6\n"));
+    assert_eq!(listing(&["lamport"], SHEET_A), on_output(&expected));
+    let refused = on_output("refused 1 at 0\n");
+    assert_eq!(listing(&["lamport"], &[]), refused);
+    for word in ["", "Lamport", "lamports", "0"] {
+        let usage = on_error("usage: listing [lamport]\n");
+        assert_eq!(listing(&[word], SHEET_A), usage);
+    }
 }
 
 #[test]

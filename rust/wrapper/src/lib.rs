@@ -22,6 +22,9 @@
 //! let reading = oboefinch::read(sheet_a)?;
 //! println!("event 7 has the clock {:?}", reading.clock(7));
 //! assert_eq!(reading.clock(7), [3, 4, 1]);
+//!
+//! let (_, lamports) = oboefinch::read_lamport(sheet_a)?;
+//! assert_eq!(lamports, [1, 1, 2, 3, 4, 5, 4, 6]);
 //! # Ok::<(), oboefinch::Refusal>(())
 //! ```
 
@@ -109,6 +112,22 @@ pub fn read(sheet: &[u8]) -> Result<Reading, Refusal> {
     Ok(work.into_reading(answer.x, answer.y, answer.z))
 }
 
+/// Reads a sheet and gives the Lamport number of each event too.
+pub fn read_lamport(sheet: &[u8]) -> Result<(Reading, Vec<u16>), Refusal> {
+    let mut work = Work::largest();
+    let mut lamports = vec![0; MOST_EVENTS];
+    let packed = raw::read_lamport(
+        sheet,
+        &mut work.clocks,
+        &mut work.masks,
+        &mut work.values,
+        &mut lamports,
+    );
+    let answer = Answer::accepted(packed)?;
+    lamports.truncate(answer.y);
+    Ok((work.into_reading(answer.x, answer.y, answer.z), lamports))
+}
+
 /// Offers each event of a list, and goes on after a refused one.
 pub fn class(processes: usize, list: &[u8]) -> Result<Class, Refusal> {
     let mut work = Work::largest();
@@ -127,6 +146,27 @@ pub fn class(processes: usize, list: &[u8]) -> Result<Class, Refusal> {
         answers,
         accepted: work.into_reading(processes, answer.y, answer.z),
     })
+}
+
+/// Offers each event of a list and gives the Lamport number of each accepted one too.
+pub fn class_lamport(processes: usize, list: &[u8]) -> Result<(Class, Vec<u16>), Refusal> {
+    let mut work = Work::largest();
+    let mut answers = vec![0; MOST_EVENTS];
+    let mut lamports = vec![0; MOST_EVENTS];
+    let packed = raw::class_lamport(
+        processes,
+        list,
+        &mut work.clocks,
+        &mut work.masks,
+        &mut work.values,
+        &mut answers,
+        &mut lamports,
+    );
+    let answer = Answer::accepted(packed)?;
+    answers.truncate(list.len() / RECORD_SIZE);
+    lamports.truncate(answer.y);
+    let accepted = work.into_reading(processes, answer.y, answer.z);
+    Ok((Class { answers, accepted }, lamports))
 }
 
 /// Writes the sheet of a list.

@@ -12,6 +12,19 @@ extern "C" {
         values_length: usize,
     ) -> u64;
 
+    fn oboefinch_read_lamport(
+        sheet: *const u8,
+        sheet_length: usize,
+        clocks: *mut u16,
+        clocks_length: usize,
+        masks: *mut u32,
+        masks_length: usize,
+        values: *mut u16,
+        values_length: usize,
+        lamports: *mut u16,
+        lamports_length: usize,
+    ) -> u64;
+
     fn oboefinch_class(
         n: usize,
         list: *const u8,
@@ -24,6 +37,22 @@ extern "C" {
         values_length: usize,
         answers: *mut u8,
         answers_length: usize,
+    ) -> u64;
+
+    fn oboefinch_class_lamport(
+        n: usize,
+        list: *const u8,
+        list_length: usize,
+        clocks: *mut u16,
+        clocks_length: usize,
+        masks: *mut u32,
+        masks_length: usize,
+        values: *mut u16,
+        values_length: usize,
+        answers: *mut u8,
+        answers_length: usize,
+        lamports: *mut u16,
+        lamports_length: usize,
     ) -> u64;
 
     fn oboefinch_write(
@@ -94,6 +123,30 @@ pub fn read(sheet: &[u8], clocks: &mut [u16], masks: &mut [u32], values: &mut [u
     }
 }
 
+pub fn read_lamport(
+    sheet: &[u8],
+    clocks: &mut [u16],
+    masks: &mut [u32],
+    values: &mut [u16],
+    lamports: &mut [u16],
+) -> u64 {
+    // SAFETY: each pointer comes with its own slice's length; the call keeps none of them.
+    unsafe {
+        oboefinch_read_lamport(
+            sheet.as_ptr(),
+            sheet.len(),
+            clocks.as_mut_ptr(),
+            clocks.len(),
+            masks.as_mut_ptr(),
+            masks.len(),
+            values.as_mut_ptr(),
+            values.len(),
+            lamports.as_mut_ptr(),
+            lamports.len(),
+        )
+    }
+}
+
 pub fn class(
     n: usize,
     list: &[u8],
@@ -116,6 +169,35 @@ pub fn class(
             values.len(),
             answers.as_mut_ptr(),
             answers.len(),
+        )
+    }
+}
+
+pub fn class_lamport(
+    n: usize,
+    list: &[u8],
+    clocks: &mut [u16],
+    masks: &mut [u32],
+    values: &mut [u16],
+    answers: &mut [u8],
+    lamports: &mut [u16],
+) -> u64 {
+    // SAFETY: each pointer comes with its own slice's length; the call keeps none of them.
+    unsafe {
+        oboefinch_class_lamport(
+            n,
+            list.as_ptr(),
+            list.len(),
+            clocks.as_mut_ptr(),
+            clocks.len(),
+            masks.as_mut_ptr(),
+            masks.len(),
+            values.as_mut_ptr(),
+            values.len(),
+            answers.as_mut_ptr(),
+            answers.len(),
+            lamports.as_mut_ptr(),
+            lamports.len(),
         )
     }
 }

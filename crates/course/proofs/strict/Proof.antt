@@ -1,49 +1,18 @@
-use native.Mathlib.Omega.{arith}
-use mathlib.Core.Path.{_≡_, refl, sym, _∙_}
+use mathlib.Core.Path.{ap, _∙_}
+use Prim.Native.Nat.{ℕ}
 use denote.Ref.{now}
-use mathlib.Core.List.{[]}
-use lib.ListN.{length}
-use Rattle.paper.specs.Class.{list-checks}
-use Rattle.paper.specs.Buffers.{short}
-use Rattle.paper.specs.Event.{how-many}
-use Rattle.offers.proofs.Early.{Enough, enough, lent, early-list}
+use lib.ListN.{length-replicate}
 use Rattle.course.specs.Said.{work}
-use Rattle.course.proofs.Called.{tail, whole-tail, strict-kept, some-tried, strict-ran, strict-stopped}
+use Rattle.course.proofs.Called.{strict-unasked}
 use borrow.Author.Needs.{needs}
 use Rattle.course.proofs.strict.Statement.{statement}
 use Rattle.course.proofs.strict.Tie as tie
 
--- Past the early checks, what is lent is enough.
-room : (c : tie.Else1) → let a = c .before .before .before .before .before .before .before .before .before .before .before .before .before .before .before .before .before .before .args in Enough (a .n) (length (now (a .list))) (length (now (a .clocks))) (length (now (a .masks))) (length (now (a .values))) 512
-room c = enough _ _ _ _ _ _ (sym (c .before .before .before .before .before .before .before .before .before .course .ensures .checked) ∙ c .if1 .left)
-
-passed : (c : tie.Else1) → let a = c .before .before .before .before .before .before .before .before .before .before .before .before .before .before .before .before .before .before .args in list-checks (a .n) (now (a .list)) (short (a .n) (how-many (now (a .list))) (work (now (a .clocks)) (now (a .masks)) (now (a .values)))) ≡ 0
-passed c = let a = c .before .before .before .before .before .before .before .before .before .before .before .before .before .before .before .before .before .before .args in sym (early-list (a .n) (now (a .list)) (work (now (a .clocks)) (now (a .masks)) (now (a .values)))) ∙ sym (c .before .before .before .before .before .before .before .before .before .course .ensures .checked) ∙ c .if1 .left
-
 returns : tie.Need-returns
-returns c = strict-kept _ _ _ _ _ _ _ _ _ _ _ _ _ _ _ _ (c .before .before .before .before .before .before .before .before .before .before .course .ensures) refl (c .before .if1 .taken) (c .of-call .ensures)
-
-tidy-requires : tie.Need-tidy-requires
-tidy-requires c κs = tail _ _ _ _ _ _ _ _ _ _ _ _ _ _ _ (lent _ _ _ _ _ _ (room (c .before .before .before .before .before))) (c .before .before .before .before .before .before .before .before .before .before .before .before .before .before .course .ensures .passed (c .before .before .before .before .before .if1 .left))
-
-returns-2 : tie.Need-returns-2
-returns-2 c = let t = c .before .before .before .before .before .before .tidy .ensures in
-    strict-ran _ _ _ _ _ _ _ _ _ _ _ _ _ _ _ _ (room (c .before .before .before .before .before .before .before .before .before .before .before .before)) (c .before .before .before .before .before .before .before .before .before .before .before .before .before .before .before .before .before .before .before .before .before .course .ensures .passed (c .before .before .before .before .before .before .before .before .before .before .before .before .if1 .left)) (passed (c .before .before .before .before .before .before .before .before .before .before .before .before)) (c .before .before .before .before .before .before .before .before .before .before .if2 .taken) (t .0) (t .1) (t .2)
-
-tidy-requires-2 : tie.Need-tidy-requires-2
-tidy-requires-2 c κs = whole-tail _ _ _ _ _ _ _ _ _ _ _ _ _ _ _ (lent _ _ _ _ _ _ (room (c .before .before .before .before .before))) (c .before .before .before .before .before .before .before .before .before .before .before .before .before .before .course .ensures .passed (c .before .before .before .before .before .if1 .left))
-
-sub-at : tie.Need-sub-at
-sub-at c = some-tried _ _ _ _ _ _ _ _ _ _ [] [] [] _ _ _ (room (c .before .before .before .before .before .before .before .before .before .before .before .before .before)) (c .before .before .before .before .before .before .before .before .before .before .before .before .before .before .before .before .before .before .before .before .before .before .course .ensures .passed (c .before .before .before .before .before .before .before .before .before .before .before .before .before .if1 .left)) (passed (c .before .before .before .before .before .before .before .before .before .before .before .before .before)) (c .before .before .before .before .before .before .before .before .before .before .before .if2 .left) .0
-
-array-read-t37 : tie.Need-array-read-t37
-array-read-t37 c =
-    let t = some-tried _ _ _ _ _ _ _ _ _ _ [] [] [] _ _ _ (room (c .before .before .before .before .before .before .before .before .before .before .before .before .before)) (c .before .before .before .before .before .before .before .before .before .before .before .before .before .before .before .before .before .before .before .before .before .before .course .ensures .passed (c .before .before .before .before .before .before .before .before .before .before .before .before .before .if1 .left)) (passed (c .before .before .before .before .before .before .before .before .before .before .before .before .before)) (c .before .before .before .before .before .before .before .before .before .before .before .if2 .left) in
-    omega (arith, t .0, t .1)
-
-returns-3 : tie.Need-returns-3
-returns-3 c = let t = c .before .before .before .before .before .before .before .tidy2 .ensures in
-    strict-stopped _ _ _ _ _ _ _ _ _ _ _ _ _ _ _ _ (room (c .before .before .before .before .before .before .before .before .before .before .before .before .before)) (c .before .before .before .before .before .before .before .before .before .before .before .before .before .before .before .before .before .before .before .before .before .before .course .ensures .passed (c .before .before .before .before .before .before .before .before .before .before .before .before .before .if1 .left)) (passed (c .before .before .before .before .before .before .before .before .before .before .before .before .before)) _ (c .before .before .before .before .before .before .before .before .before .before .before .if2 .left) refl refl (t .0) (t .1) (t .2)
+returns c =
+    let a = c .before .before .before .before .before .before .before .before .before .before .before .before .before .before .before .before .args in
+    ap (λ p. p .0) (c .before .before .before .before .before .before .before .strict-lamport .ensures)
+    ∙ strict-unasked (a .n) (now (a .list)) (work (now (a .clocks)) (now (a .masks)) (now (a .values))) _ (length-replicate {A = ℕ} 512 0)
 
 pub strict-spec : {M : Type 1} → statement M
 strict-spec =
@@ -51,20 +20,7 @@ strict-spec =
     (tie.spec
     (λ c. search needs)
     (λ c κs. search needs)
-    (λ c κs. search needs)
     (λ c. search needs)
     (λ c. search needs)
     (λ c. search needs)
-    returns
-    tidy-requires
-    (λ c. search needs)
-    (λ c. search needs)
-    (λ c. search needs)
-    returns-2
-    tidy-requires-2
-    sub-at
-    array-read-t37
-    (λ c. search needs)
-    (λ c. search needs)
-    (λ c. search needs)
-    returns-3)
+    returns)

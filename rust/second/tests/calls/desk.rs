@@ -30,6 +30,7 @@ impl Desk {
             clocks: &mut self.clocks,
             masks: &mut self.masks,
             values: &mut self.values,
+            lamports: None,
         }
     }
 

@@ -1,5 +1,6 @@
-//! The six calls held against the paper.
+//! The calls held against the paper.
 
 mod desk;
+mod lamports;
 mod paper;
 mod refusals;

@@ -78,7 +78,7 @@ fn sheet_a_is_written_byte_for_byte() {
 
 #[test]
 fn sheet_a_is_listed_byte_for_byte() {
-    let printed = text::listing(SHEET_A);
+    let printed = text::listing(&[], SHEET_A);
     assert_eq!(printed.output, LISTING_OF_A.as_bytes());
     assert!(printed.error.is_empty());
 }
@@ -219,7 +219,7 @@ fn bytes_in_neither_part_alter_no_answer() {
     sheet.extend([0xff; 5]);
     sheet.extend(list_a());
     sheet.extend([0xff; 7]);
-    assert_eq!(text::listing(&sheet).output, LISTING_OF_A.as_bytes());
+    assert_eq!(text::listing(&[], &sheet).output, LISTING_OF_A.as_bytes());
 }
 
 #[test]

@@ -1,31 +1,18 @@
-use Prim.Native.Nat.{_+_, _-_, _*_}
-use mathlib.Core.Path.{_≡_}
 use native.Mathlib.Omega.{arith}
-use Rattle.lines.proofs.Laws.{join, same}
-use Rattle.lines.proofs.Slots.{line-is}
+use Rattle.paper.specs.Bytes.{text}
+use Rattle.lines.specs.Slots.{slot-line}
+use Rattle.lines.proofs.Laws.{join}
 use borrow.Author.Needs.{needs}
 use Rattle.lines.proofs.event.put_event.Statement.{statement}
 use Rattle.lines.proofs.event.put_event.Tie as tie
 
 returns : tie.Need-returns
-returns c = let s = c .before .before .before .before .before .before .before .before .before .before .before .before .before .before .args in
-    let many : s .n * s .a + s .n - s .n * s .a ≡ s .n = omega arith in
-    let a = c .before .before .before .before .before .before .before .before .put-fields .ensures in
-    let b = c .before .before .put-stamp .ensures in
-    (same (line-is (s .n) _ _ _ _ _ (c .before .before .before .before .mask-at .ensures) many) (join (a .0) (b .0)), omega (arith, a .1, b .1))
+unfolding slot-line text
+returns c = let a = c .before .before .before .before .before .before .before .before .before .before .put-event-words .ensures in
+    let b = c .before .before .before .before .before .before .put-last .ensures in
+    let d = c .before .before .put .ensures in
+    (join (join (a .0) (b .0)) d, omega (arith, a .1, b .1, d .place))
 
 pub put-event-spec : {M : Type 1} → statement M
 put-event-spec =
-    tie.close
-    (tie.spec
-    (λ c. search needs)
-    (λ c. search needs)
-    (λ c κs. search needs)
-    (λ c κs. search needs)
-    (λ c. search needs)
-    (λ c. search needs)
-    (λ c. search needs)
-    (λ c. search needs)
-    (λ c κs. search needs)
-    (λ c. search needs)
-    returns)
+    tie.close (tie.spec (λ c κs. search needs) (λ c κs. search needs) (λ c κs. search needs) (λ c. search needs) returns)

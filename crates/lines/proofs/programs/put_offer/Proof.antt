@@ -4,7 +4,7 @@ use Rattle.lines.proofs.programs.put_offer.Statement.{statement}
 use Rattle.lines.proofs.programs.put_offer.Tie as tie
 
 returns : tie.Need-returns
-returns c = simp (eq-eqb _ _ (c .before .before .before .before .if1 .taken)) (c .before .before .put-event .ensures)
+returns c = simp (eq-eqb _ _ (c .before .before .before .before .before .if1 .taken)) (c .before .before .put-event .ensures)
 
 returns-2 : tie.Need-returns-2
 returns-2 c = simp (ne-eqb _ _ (c .before .before .before .before .if1 .left)) (c .before .before .put-refused .ensures)
@@ -12,4 +12,4 @@ returns-2 c = simp (ne-eqb _ _ (c .before .before .before .before .if1 .left)) (
 pub put-offer-spec : {M : Type 1} → statement M
 put-offer-spec =
     tie.close
-    (tie.spec (λ c κs. search needs) (λ c. search needs) returns (λ c κs. search needs) (λ c. search needs) returns-2)
+    (tie.spec (λ c. search needs) (λ c κs. search needs) (λ c. search needs) returns (λ c κs. search needs) (λ c. search needs) returns-2)

@@ -19,6 +19,7 @@ returns c =
       refl,
       c .before .before .lay .ensures,
       refl,
+      refl,
     )
 
 pub internal-spec : {M : Type 1} → statement M

@@ -24,7 +24,7 @@ judge-requires : tie.Need-judge-requires
 judge-requires c κs = let p = c .before .before .before .before .before .before .before .before .before .before .before .before .before .pre in (p .few, omega (arith, p .small, few-stamps _ _ _ _ _ _ _ _ _ _ _ _ _ _ _ _ _ _ p _ refl))
 
 returns : tie.Need-returns
-returns c = refused-moved _ _ _ _ _ _ _ _ _ _ _ _ _ _ _ _ _ _ (c .before .before .before .before .before .before .before .before .before .before .before .before .before .before .before .pre) _ (sym (c .before .before .before .before .before .before .before .before .before .read .ensures)) _ (plain (c .before)) (c .if1 .taken)
+returns c = refused-moved _ _ _ _ _ _ _ _ _ _ _ _ _ _ _ _ _ _ (c .before .before .before .before .before .before .before .before .before .before .before .before .before .before .before .pre) _ (sym (c .before .before .before .before .before .before .before .before .before .read .ensures)) _ _ (plain (c .before)) (c .if1 .taken)
 
 link-requires : tie.Need-link-requires
 link-requires c κs = let p = c .before .before .before .before .before .before .before .before .before .before .before .before .before .before .before .before .before .before .before .pre in omega (arith, p .small, few-stamps _ _ _ _ _ _ _ _ _ _ _ _ _ _ _ _ _ _ p _ refl)
@@ -53,8 +53,8 @@ returns-2 c =
     let w = c .before .before .before .before .before .before .before .before .before .before .before .before .before .before .before .before .before .before .link .ensures in
     let t = c .before .before .before .before .before .before .send .last .1 .1 .1 .1 in
     send-moved _ _ _ _ _ _ _ _ _ _ _ _ _ _ _ _ _ _ (c .before .before .before .before .before .before .before .before .before .before .before .before .before .before .before .before .before .before .before .before .before .before .before .before .before .before .before .before .before .before .before .before .before .before .before .before .before .before .pre) _ (sym (c .before .before .before .before .before .before .before .before .before .before .before .before .before .before .before .before .before .before .before .before .before .before .before .before .before .before .before .before .before .before .before .before .read .ensures)) (yea (c .before .before .before .before .before .before .before .before .before .before .before .before .before .before .before .before .before .before .before .before .before .before .before)) (c .before .before .before .before .before .before .before .before .before .before .before .before .before .before .before .before .before .before .before .before .before .if2 .taken)
-    (as-record (t .0) (t .1 .0) (t .1 .1 .0)) _ _ _ _ _ _ _ _ _ _ _ _ _ (c .before .before .before .before .before .before .before .before .before .before .before .before .before .before .before .before .before .before .before .before .before .before .before .if1 .left)
-    (n .0 .0) (n .0 .1) (n .0 .2) (n .0 .3) (n .0 .4) (n .0 .5) (n .0 .6) (n .1 .0) (n .1 .1) (n .1 .2) (n .1 .3) (n .1 .4) (w .0) (w .1)
+    (as-record (t .0) (t .1 .0) (t .1 .1 .0)) _ _ _ _ _ _ _ _ _ _ _ _ _ _ (c .before .before .before .before .before .before .before .before .before .before .before .before .before .before .before .before .before .before .before .before .before .before .before .if1 .left)
+    (n .0 .0) (n .0 .1) (n .0 .2) (n .0 .3) (n .0 .4) (n .0 .5) (n .0 .6) (n .1 .0) (n .1 .1) (n .1 .2) (n .1 .3) (n .1 .4) (w .0) (w .1) (n .1 .5)
 
 receive-requires : tie.Need-receive-requires
 receive-requires c κs =
@@ -86,7 +86,7 @@ returns-3 c =
     let p = c .before .before .before .before .before .before .before .before .before .before .before .before .before .before .before .before .before .before .before .before .before .before .before .before .before .before .before .before .before .before .before .pre in
     let s = c .before .before .before .before .before .before .before .before .before .before .before .before .before .before .before .before .before .before .before .before .before .before .before .before .before .before .before .before .before .before .before .args .last-sent .now in
     receive-moved _ _ _ _ _ _ _ _ _ _ _ _ _ _ _ _ _ _ p _ (sym (c .before .before .before .before .before .before .before .before .before .before .before .before .before .before .before .before .before .before .before .before .before .before .before .before .before .read .ensures)) (yea (c .before .before .before .before .before .before .before .before .before .before .before .before .before .before .before .before)) (c .before .before .before .before .before .before .before .before .before .before .before .before .if3 .taken) _ (c .before .before .before .before .before .before .before .before .before .before .before .before .before .before .before .before .before .before .before .before .before .find .ensures)
-    (as-record (t .0) (t .1 .0) s) _ _ _ _ _ _ (c .before .before .before .before .before .before .before .before .before .before .before .before .before .before .before .before .if1 .left) (n .0 s) (record { clock = n .1; updated = n .2; sent = p .whole .sent }) (n .3) (n .4) (n .5) (n .6) (n .7)
+    (as-record (t .0) (t .1 .0) s) _ _ _ _ _ _ _ (c .before .before .before .before .before .before .before .before .before .before .before .before .before .before .before .before .if1 .left) (n .0 s) (record { clock = n .1; updated = n .2; sent = p .whole .sent }) (n .3) (n .4) (n .5) (n .6) (n .7) (n .8)
 
 internal-requires : tie.Need-internal-requires
 internal-requires c κs =
@@ -111,8 +111,8 @@ returns-4 c =
     let is = sym (c .before .before .before .before .before .before .before .before .before .before .before .before .before .before .before .before .before .before .before .before .before .before .read .ensures) in
     let y = yea (c .before .before .before .before .before .before .before .before .before .before .before .before .before) in
     let f = fit _ _ _ _ _ _ _ _ _ _ _ _ _ _ _ _ _ _ p _ is y in
-    internal-moved _ _ _ _ _ _ _ _ _ _ _ _ _ _ _ _ _ _ p _ is y (as-record (t .0) (t .1 .0) s) _ _ _ _ _
-    (omega (arith, f .kind, c .before .before .before .before .before .before .before .before .before .before .before .if2 .left, c .before .before .before .before .before .before .before .before .before .if3 .left)) (c .before .before .before .before .before .before .before .before .before .before .before .before .before .if1 .left) (n .0 s) (record { clock = n .1; updated = n .2; sent = p .whole .sent }) (n .3) (n .4) (n .5) (n .6)
+    internal-moved _ _ _ _ _ _ _ _ _ _ _ _ _ _ _ _ _ _ p _ is y (as-record (t .0) (t .1 .0) s) _ _ _ _ _ _
+    (omega (arith, f .kind, c .before .before .before .before .before .before .before .before .before .before .before .if2 .left, c .before .before .before .before .before .before .before .before .before .if3 .left)) (c .before .before .before .before .before .before .before .before .before .before .before .before .before .if1 .left) (n .0 s) (record { clock = n .1; updated = n .2; sent = p .whole .sent }) (n .3) (n .4) (n .5) (n .6) (n .7)
 
 pub offered-spec : {M : Type 1} → statement M
 offered-spec =

@@ -12,7 +12,7 @@ returns c =
     let t = c .before .before .before .before .before .before .take .ensures in
     let ch = c .before .before .before .before .before .before .before .before .before .before .before .before .channel-number .ensures .0 in
     let ix = c .before .before .before .before .before .before .before .before .before .before .index .ensures .0 in
-    (λ sent. rw ix at (t .0 sent), t .1, t .2, refl, refl, c .before .before .lay .ensures, refl, rw (← ch) refl)
+    (λ sent. rw ix at (t .0 sent), t .1, t .2, refl, refl, c .before .before .lay .ensures, refl, rw (← ch) refl, refl)
 
 pub receive-spec : {M : Type 1} → statement M
 receive-spec =

@@ -23,7 +23,7 @@ returns c =
     let a = c .before .before .before .before .before .before .before .before .before .before .before .before .before .before .before .before .before .before .before .before .before .before .args in
     let ch = c .before .before .before .before .before .before .before .before .before .before .before .before .before .before .before .before .before .before .channel-number .ensures .0 in (
       (n .1, n .2, refl, ap ones (n .0) ∙ ones-mask _ _, c .before .before .lay .ensures, ap (λ (m : ℕ). set (a .masks .now) (a .k) m) (n .0), n .3),
-      (w .0, rw ch at (w .1), rw ch at (w .2), w .3, rw ch at (w .4)),
+      (w .0, rw ch at (w .1), rw ch at (w .2), w .3, rw ch at (w .4), refl),
     )
 
 pub send-spec : {M : Type 1} → statement M
