@@ -12,19 +12,20 @@
  *   write             0                   0                events           bytes written
  *   compare, order    0                   verdict          0                0
  *   chain             0                   0                0                length of the chain
+ *   mark              0                   0                the total        lines
  *
  * read_lamport answers as read does, class_lamport as class. A verdict is 1 where the first is before the second, 2 where it is after,
  * 3 where it is neither. The position is that of the event where an event or its stamp is refused, otherwise 0.
  *
  * Work buffers, for n processes and a list of m events (8 bytes each): clocks has at least n * m slots, masks m, values n * m, and
  * answers of class and lamports m; else the call is refused with 9. These are the named slots. A sheet is at most 40960 bytes. A chain
- * is written only where its output has at least 512 slots, and a sheet only where its output has room for it; else the call is refused
- * with 21.
+ * is written only where its output has at least 512 slots, a sheet only where its output has room for it, and marks only where there is
+ * a slot for each line; else the call is refused with 21.
  *
- * Buffers after a call: a refusal up to and including 9 writes nothing. A later one sets the named slots to 0 and leaves the outputs
- * (sheet of write, chain) untouched. On success clocks holds the clocks of the accepted events one after another, n slots each, masks
- * their masks, one each (0 where the event is no send), values the carried values, lamports their Lamport numbers, one each; named
- * slots not used are 0. All other slots, and output beyond what is written, are untouched.
+ * Buffers after a call: a refusal up to and including 9 writes nothing, nor does 30. Any other sets the named slots to 0 and leaves the
+ * outputs (sheet of write, chain, marks) untouched. On success clocks holds the clocks of the accepted events one after another, n slots
+ * each, masks their masks, one each (0 where the event is no send), values the carried values, lamports their Lamport numbers, one each;
+ * named slots not used are 0. All other slots, and output beyond what is written, are untouched.
  */
 #ifndef OBOEFINCH_H
 #define OBOEFINCH_H
@@ -85,6 +86,16 @@ uint64_t oboefinch_chain(size_t n, const uint8_t *list, size_t list_length,
                          uint16_t *values, size_t values_length,
                          size_t first, size_t second,
                          uint16_t *chain, size_t chain_length);
+
+/* Marks a pupil's list on a sheet. A line is 6 bytes: two positions and a verdict, 16 bits each, little-endian. The slot of a line in marks
+ * holds 1 where both events are there and the verdict is the one on them, else 0; the total counts the ones. A list that is not whole
+ * lines, or has more than 200, is refused with 30 before the sheet is looked at. */
+uint64_t oboefinch_mark(const uint8_t *sheet, size_t sheet_length,
+                        const uint8_t *lines, size_t lines_length,
+                        uint16_t *clocks, size_t clocks_length,
+                        uint32_t *masks, size_t masks_length,
+                        uint16_t *values, size_t values_length,
+                        uint8_t *marks, size_t marks_length);
 
 /* The verdict on two lent clocks, which have the same number of components, 1 to 32; else 4. */
 uint64_t oboefinch_order(const uint16_t *first, size_t first_length,

@@ -1,7 +1,7 @@
 #!/usr/bin/env bash
 # The box: for each stored input, each program writes exactly the stored bytes. An entry of box/PROGRAM/ is NAME.in, NAME.args (one line of words,
-# '' for an empty one), NAME.out, and NAME.err where something is expected on standard error. What is expected comes from the paper, not from these
-# programs.
+# '' for an empty one), NAME.out, and NAME.err where something is expected on standard error. Where there is a NAME.list, its name is the program's
+# first word. What is expected comes from the paper, not from these programs.
 set -u
 cd "$(dirname "$0")/.." || exit 2
 
@@ -10,9 +10,10 @@ programs='class 44
 listing 63
 compare 17
 chain 17
-write 36'
+write 36
+marker 24'
 # The refusals that the entries show. 9 and 21 can't be had: the programs' own buffers are always long enough (theorem `never-short`).
-refusals='1 2 3 4 5 6 7 8 10 11 12 13 14 15 16 18 19 20 22'
+refusals='1 2 3 4 5 6 7 8 10 11 12 13 14 15 16 18 19 20 22 30'
 
 bad=0
 complain() {
@@ -29,6 +30,7 @@ run() { # PROGRAM ENTRY
     [ -f "$2.err" ] && errors=$2.err
     read -r -a words <"$2.args"
     words=("${words[@]/#\'\'/}")
+    [ -f "$2.list" ] && words=("$2.list" "${words[@]}")
     "target/bin/$1" "${words[@]}" <"$2.in" >"$got/out" 2>"$got/err" || complain "$2 ended with status $?"
     cmp "$2.out" "$got/out" || complain "$2 differs on standard output"
     cmp "$errors" "$got/err" || complain "$2 differs on standard error"

@@ -1,28 +1,31 @@
 -- `never-short`: no program refuses with 9 or 21, since its buffers are long enough for every input.
 -- The other checks have other numbers; check 9 never holds, for past the checks before it there are at most 32 processes and 512 events.
-use Prim.Native.Nat.{ℕ, suc}
+use Prim.Native.Nat.{ℕ, suc, _≤_}
 use native.Mathlib.Omega.{arith}
 use mathlib.Core.Bool.{Bool, true, false, cond, _||_}
 use mathlib.Core.List.{List, [], _∷_}
 use mathlib.Core.Logic.{_≢_}
 use mathlib.Core.Path.{_≡_, refl, sym, ap, _∙_, subst}
-use lib.Dec.{eqb}
+use lib.Dec.{eqb, ltb}
 use lib.ListN.{length, drop, replicate, length-take, length-replicate}
-use borrow.Author.Tests.{eqb-true}
+use borrow.Author.Tests.{eqb-true, le-ltb}
 use Rattle.paper.specs.Buffers.{short}
 use Rattle.paper.specs.Class.{wrong-list, class-number, class}
 use Rattle.paper.specs.Event.{Event, how-many, events-of}
 use Rattle.paper.specs.Machine.{State, offered, shape, answer, answers, start, clocked}
+use Rattle.paper.specs.Marking.{line-count, wrong-lines, marking-refusal, marking}
 use Rattle.paper.specs.Questions.{list-refusal, comparing-refusal, comparing, chaining-refusal, chaining}
 use Rattle.paper.specs.Reading.{wrong-count, header-checks, first-refused, begins, stamps-refused, reading-refusal, reading, reading-lamport}
 use Rattle.paper.specs.Refusals.{first, Refusal, of-call, _then_, refused, outcome}
 use Rattle.paper.specs.Sheet.{processes-in, list-offset, list-size, list-in, stamps-in, pieces}
 use Rattle.paper.proofs.Laws.Tables.{cond-cases}
+use Rattle.paper.proofs.Sheets.Checks.{last}
 use Rattle.paper.proofs.Sheets.Header.{header-says}
 use Rattle.offers.proofs.Early.{lent-512}
 use Rattle.course.proofs.Passed.{is-refused}
 use Rattle.sheet.proofs.Checks.{header-then}
 use Rattle.sheet.proofs.WithNumbers.{unasked}
+use Rattle.marks.proofs.Judged.{short-lines}
 use Rattle.desk.specs.Answers.{ample, write-refusal, write-answer}
 use Rattle.desk.proofs.SheetOut.{roomy, never-scant, same-refusal}
 
@@ -43,8 +46,11 @@ is-other c h = (
   λ e. let z : _≡_ {A = ℕ} 0 21 = subst (λ (x : ℕ). kept x ≡ x) e h in omega arith,
 )
 
+then-later : (r k : Refusal) → Other (r .number) → (r .number ≡ 0 → Other (k .number)) → Other ((r then k) .number)
+then-later r k p q = cond-cases (λ (x : Refusal). Other (x .number)) (eqb (r .number) 0) k r (λ e. q (eqb-true (r .number) 0 e)) (λ e. p)
+
 then-other : (r k : Refusal) → Other (r .number) → Other (k .number) → Other ((r then k) .number)
-then-other r k p q = cond-cases (λ (x : Refusal). Other (x .number)) (eqb (r .number) 0) k r (λ e. q) (λ e. p)
+then-other r k p q = then-later r k p (λ z. q)
 
 answer-other : (n : ℕ) (s : State) (e : Event) → Other (answer n s e)
 unfolding answer shape
@@ -121,6 +127,18 @@ module _ (b : List ℕ) where
       then-other (of-call (header-checks b (first scant 9 0))) _ checks-other
       (then-other (first-refused 0 (answers n start es)) _ (events-other es n start 0) (stamps-other (pieces (clocked n start es)) 0 (stamps-in b)))
 
+  -- Lines that are not refused are at most as many as the slots for their marks.
+  marking-other : (lines out : List ℕ) → 200 ≤ length out → Other (marking-refusal b lines ample out .number)
+  unfolding marking-refusal
+  marking-other lines out long =
+      let early = of-call (first (wrong-lines lines) 30 0) in
+      let late = of-call (first (ltb (length out) (line-count lines)) 21 0) in
+      then-later early (reading-refusal b ample then late) (is-other _ (simp kept-first))
+      (λ z.
+      let short = short-lines lines (last (wrong-lines lines) 30 (omega arith) (λ h. h, λ h. h) .0 z) in
+      then-other (reading-refusal b ample) late reading-other
+      (rw (le-ltb (length out) (line-count lines) (omega arith)) (λ e. omega arith, λ e. omega arith)))
+
 -- The outcomes that the programs print.
 pub record NeverShort : Type 0 where
   pub classed : (n : ℕ) (list : List ℕ) (r : Refusal) → class n list ample (replicate 512 0) .0 ≡ refused r → Other (r .number)
@@ -129,10 +147,11 @@ pub record NeverShort : Type 0 where
   pub compared : (n : ℕ) (list : List ℕ) (a b : ℕ) (r : Refusal) → comparing n list ample a b .0 ≡ refused r → Other (r .number)
   pub chained :
       (n : ℕ) (list : List ℕ) (a b : ℕ) (r : Refusal) → chaining n list ample a b (replicate 512 0) .0 ≡ refused r → Other (r .number)
+  pub marked : (b lines : List ℕ) (r : Refusal) → marking b lines ample (replicate 200 0) .0 ≡ refused r → Other (r .number)
   pub written : (n : ℕ) (list : List ℕ) (r : Refusal) → write-answer n list ≡ refused r → Other (r .number)
 
 pub never-short : NeverShort
-unfolding class reading comparing chaining write-answer
+unfolding class reading comparing chaining marking write-answer
 never-short =
     record {
       classed = λ n list r. outcome-other _ _ (class-other n list) r;
@@ -140,5 +159,6 @@ never-short =
       numbered = λ b r e. outcome-other _ _ (reading-other b) r (sym (ap (λ x. x .0) (unasked b ample (replicate 512 0) (length-replicate {A = ℕ} 512 0))) ∙ e);
       compared = λ n list a b r. outcome-other _ _ (comparing-other n list a b) r;
       chained = λ n list a b r. outcome-other _ _ (chaining-other n list a b) r;
+      marked = λ b lines r. outcome-other _ _ (marking-other b lines (replicate 200 0) (omega (arith, length-replicate {A = ℕ} 200 0))) r;
       written = λ n list r. outcome-other _ _ (write-other n list) r;
     }

@@ -8,10 +8,12 @@ use Rattle.paper.specs.Class.{wrong-list, class}
 use Rattle.paper.specs.Event.{events-of}
 use Rattle.paper.specs.Listing.{listing, lamport-listing, refusal-line}
 use Rattle.paper.specs.Machine.{start, answers, clocked}
+use Rattle.paper.specs.Marking.{marks, marking}
 use Rattle.paper.specs.Questions.{comparing, chaining}
 use Rattle.paper.specs.Reading.{wrong-count, first-refused, reading, reading-lamport}
 use Rattle.paper.specs.Refusals.{first, Refusal, of-call, _then_, Outcome, refused, done, outcome}
-use Rattle.paper.specs.Sheet.{written}
+use Rattle.paper.specs.Sheet.{processes-in, list-in, written}
+use Rattle.lines.specs.Marker.{marker-lines}
 use Rattle.lines.specs.Programs.{verdict-line, chain-line, class-listing}
 
 -- Slots for 512 events of 32 processes.
@@ -57,3 +59,10 @@ write-refusal n list =
 
 unfoldable pub write-answer : ℕ → List ℕ → Outcome (List ℕ)
 write-answer n list = outcome (write-refusal n list) (written n list)
+
+-- `marker`: what refuses the list or the sheet, or the marks and their total. The slots are for 200 lines, so there is no 21.
+unfoldable pub marker-answer : List ℕ → List ℕ → List ℕ
+marker-answer sheet lines =
+    let n = processes-in sheet in
+    let ms = marks n (clocked n start (events-of (list-in sheet))) lines in
+    text-of (λ m. marker-lines ms (m .total)) (marking sheet lines ample (replicate 200 0) .0)

@@ -1,9 +1,10 @@
 // What the programs answer: the whole text for a whole input, over work buffers that are always large enough.
 ghost use Rattle.lines.specs.Text.{Printed};
-ghost use Rattle.desk.specs.Answers.{class-answer, listing-answer, listing-lamport-answer, verdict-said, chain-said, compare-answer, chain-answer, write-answer};
+ghost use Rattle.desk.specs.Answers.{class-answer, listing-answer, listing-lamport-answer, verdict-said, chain-said, compare-answer, chain-answer, write-answer, marker-answer};
 ghost use Rattle.desk.specs.Said.{Stands};
 use clock::Position;
 use course::Classed;
+use marks::Marked;
 use order::Chained;
 use order::Compared;
 use sheet::Reading;
@@ -164,6 +165,28 @@ pub fn chain_answer(sheet: &[u8], first: Position, second: Position, out: &mut [
             let from = c.offset;
             chain_said(c.processes, &sheet[from..from + c.size], first, second, out)
         }
+    }
+}
+
+// What `marker` prints of a sheet and a pupil's list.
+pub fn marker_answer(sheet: &[u8], list: &[u8], out: &mut [u8; PAGE]) -> usize
+    ensures { λ r. ⌜ Printed (now (out .entry)) (marker-answer (now (sheet .entry)) (now (list .entry))) r (now (out .exit)) ⌝ }
+{
+    let mut clocks = [0u16; 16384];
+    let mut masks = [0u32; 512];
+    let mut values = [0u16; 16384];
+    let mut slots = [0u8; 200];
+    let m = marks::mark(
+        sheet,
+        list,
+        &mut clocks,
+        &mut masks,
+        &mut values,
+        &mut slots,
+    );
+    match m {
+        Marked::Refused(r) => lines::refusal_text(r, out),
+        Marked::Done(total, count) => lines::marker_text(&slots, total, count, out),
     }
 }
 

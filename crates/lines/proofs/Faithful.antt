@@ -30,7 +30,7 @@ use Rattle.lines.specs.Slots.{slot-words, last-field, slot-line, numbere
 use Rattle.lines.specs.Text.{each}
 use Rattle.lines.proofs.Slots.{number-there, number-none, Fitting, fitted}
 
-each-same : (f g : ℕ → List ℕ) (k : ℕ) → ((i : ℕ) → i < k → f i ≡ g i) → each f k ≡ each g k
+pub each-same : (f g : ℕ → List ℕ) (k : ℕ) → ((i : ℕ) → i < k → f i ≡ g i) → each f k ≡ each g k
 unfolding each
 each-same f g zero h = refl
 each-same f g (suc k) h = rw (each-same f g k (λ i l. h i (omega arith)), h k (omega arith))
@@ -276,7 +276,7 @@ module _ (n : ℕ) (few : n ≤ 32) (list : List ℕ) where
           (each-same (offer-line n list lent clocks masks) (class-line n rs cs (stamps cs)) (how-many list) offer-there))
 
 -- The slots as a call leaves them that names as many as the paper does.
-laid-begins : (named : ℕ) (xs old : List ℕ) → laid named xs old ≡ xs ++ (replicate (named - length xs) 0 ++ drop named old)
+pub laid-begins : (named : ℕ) (xs old : List ℕ) → laid named xs old ≡ xs ++ (replicate (named - length xs) 0 ++ drop named old)
 unfolding laid
 laid-begins named xs old = append-assoc xs (replicate (named - length xs) 0) (drop named old)
 

@@ -1,4 +1,5 @@
 pub mod Laws
 pub mod Slots
 pub mod Faithful
+pub mod MarkerLines
 mod Others

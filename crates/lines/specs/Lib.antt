@@ -1,3 +1,4 @@
 pub mod Text
 pub mod Slots
 pub mod Programs
+pub mod Marker

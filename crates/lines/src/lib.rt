@@ -5,9 +5,11 @@ ghost use Rattle.clock.specs.Said.{number, refusal};
 ghost use Rattle.lines.specs.Text.{Printed};
 ghost use Rattle.lines.specs.Slots.{listing-text, listing-lamport-text};
 ghost use Rattle.lines.specs.Programs.{verdict-line, chain-text, class-text};
+ghost use Rattle.lines.specs.Marker.{marker-text};
 
 mod event;
 mod listing;
+mod marker;
 mod programs;
 mod text;
 
@@ -95,4 +97,18 @@ pub fn class_text(
     }
     let k = programs::put_class_head(out, m, n, accepted, carried);
     programs::put_offers(out, k, n, list, answers, clocks, masks)
+}
+
+// The marks of a pupil's lines, the first `len` slots, and their total.
+pub fn marker_text(marks: &[u8], total: usize, len: usize, out: &mut [u8]) -> usize
+    ensures { λ r. ⌜ Printed (now (out .entry)) (marker-text (now (marks .entry)) total len) r (now (out .exit)) ⌝ }
+{
+    if 200 < len {
+        return 0;
+    }
+    if marks.len() < len {
+        return 0;
+    }
+    let k = marker::put_marks(out, marks, len);
+    marker::put_total(out, k, total, len)
 }

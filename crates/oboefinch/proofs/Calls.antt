@@ -15,6 +15,7 @@ use Rattle.paper.specs.Class.{list-checks, class-by, class, class-lamport}
 use Rattle.paper.specs.Clock.{Clock}
 use Rattle.paper.specs.Event.{Event, how-many, events-of}
 use Rattle.paper.specs.Machine.{start, answers, clocked}
+use Rattle.paper.specs.Marking.{line-count, line-at, wrong-lines, is-right, total, marking-refusal, marking}
 use Rattle.paper.specs.Order as order
 use Rattle.paper.specs.Questions.{ordering, list-refusal, comparing, comparing-refusal, no-such, judged, chaining-refusal, chaining}
 use Rattle.paper.specs.Questions.{writing-refusal, writing}
@@ -22,6 +23,7 @@ use Rattle.paper.specs.Reading.{wrong-count, header-checks, first-refused, read
 use Rattle.paper.specs.Refusals.{first, of-call, refused}
 use Rattle.paper.specs.Sheet.{processes-in, list-offset, list-size, list-in, stamps-in, piece, pieces, stamps-part, header, written}
 use Rattle.paper.specs.Stamp.{stamps}
+use Rattle.paper.proofs.Laws.Masks.{count-le}
 use Rattle.paper.proofs.Laws.Runs.{clocked-few, clocked-all, length-events}
 use Rattle.paper.proofs.Laws.Tables.{cond-cases}
 use Rattle.paper.proofs.Lent.{chain-few}
@@ -31,9 +33,11 @@ use Rattle.paper.proofs.RoundTrip.{list-accepted, writing-number}
 use Rattle.paper.proofs.Sheets.Checks.{not-below, below, equal, neither, in-order, last, both, room, list-passed}
 use Rattle.paper.proofs.Sheets.Header.{header-says}
 use Rattle.paper.proofs.Sheets.Sizes.{stamps-short}
+use Rattle.paper.proofs.TotalRight.{marking-number}
 use Rattle.paper.proofs.Verdicts.{verdict-right}
 use Rattle.sheet.proofs.WithNumbers.{nine-or-plain}
-use Rattle.oboefinch.specs.Packed.{read-fields, class-fields, write-fields, verdict-fields, chain-fields, fields}
+use Rattle.marks.proofs.Judged.{short-lines}
+use Rattle.oboefinch.specs.Packed.{read-fields, class-fields, write-fields, verdict-fields, chain-fields, mark-fields, fields}
 use Rattle.oboefinch.proofs.Refusals.{Mild, capped, call-mild, then-mild, mild-small, events-mild, stamps-mild, zip-few}
 use Rattle.oboefinch.proofs.Small.{Small, outcome-small}
 
@@ -178,3 +182,16 @@ module _ (b : List ℕ) (w : Work) where
           → Small (fields read-fields (reading-lamport b w numbers .0 .0))
       go (inl q) = rw q reading-small
       go (inr q) = rw q (mild-small (of-call 9) (call-mild 9 refl))
+
+  -- 30, as reading, 21; at most 200 lines, of which no more are right.
+  pub marking-small : (lines out : List ℕ) → Small (fields mark-fields (marking b lines w out .0))
+  unfolding marking marking-refusal total
+  marking-small lines out =
+      let scant = ltb (length out) (line-count lines) in
+      outcome-small mark-fields (marking-refusal b lines w out) _
+      (mild-small _ (then-mild (of-call (first (wrong-lines lines) 30 0)) _ (call-mild (first (wrong-lines lines) 30 0) (simp capped))
+      (λ g. then-mild (reading-refusal b w) _ reading-mild (λ h. call-mild (first scant 21 0) (simp capped)))))
+      (λ h.
+      let short = short-lines lines (marking-number b lines w out .0 h .0) in
+      let few = count-le (λ j. is-right processes (clocked processes start events) (line-at lines j)) (line-count lines) in
+      record { number = omega arith; x = omega arith; y = omega arith; z = omega arith })

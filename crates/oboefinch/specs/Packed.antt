@@ -4,6 +4,7 @@ use mathlib.Core.List.{List}
 use Rattle.paper.specs.Buffers.{Work}
 use Rattle.paper.specs.Class.{Classed}
 use Rattle.paper.specs.Event.{how-many}
+use Rattle.paper.specs.Marking.{Marked}
 use Rattle.paper.specs.Questions.{Written}
 use Rattle.paper.specs.Reading.{Read}
 use Rattle.paper.specs.Refusals.{Refusal, Outcome, refused, done}
@@ -40,6 +41,10 @@ verdict-fields v = record { number = 0; x = v; y = 0; z = 0 }
 -- The chain: its length.
 abbrev pub chain-fields : ℕ → Fields
 chain-fields k = record { number = 0; x = 0; y = 0; z = k }
+
+-- Marking: the total, the lines.
+abbrev pub mark-fields : Marked → Fields
+mark-fields a = record { number = 0; x = 0; y = a .total; z = a .lines }
 
 -- The fields of what a call gives, where `told` has those of its answer.
 abbrev pub fields : {A : Type 0} → (A → Fields) → Outcome A → Fields

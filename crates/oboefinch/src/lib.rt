@@ -3,14 +3,16 @@ mod pack;
 
 ghost use mathlib.Core.Path.{_≡_};
 ghost use Rattle.paper.specs.Class as paper;
+ghost use Rattle.paper.specs.Marking.{marking};
 ghost use Rattle.paper.specs.Questions.{ordering, comparing, chaining, writing};
 ghost use Rattle.paper.specs.Reading.{reading, reading-lamport};
 ghost use Rattle.course.specs.Said.{work};
-ghost use Rattle.oboefinch.specs.Packed.{read-fields, class-fields, write-fields, verdict-fields, chain-fields};
+ghost use Rattle.oboefinch.specs.Packed.{read-fields, class-fields, write-fields, verdict-fields, chain-fields, mark-fields};
 ghost use Rattle.oboefinch.specs.Packed.{answered, with-work, with-output, with-numbers};
 use clock::Ordered;
 use clock::Position;
 use course::Classed;
+use marks::Marked;
 use order::Chained;
 use order::Compared;
 use sheet::Reading;
@@ -158,6 +160,26 @@ pub extern "C" fn oboefinch_chain(
     match order::chain(n, list, clocks, masks, values, a, b, chain) {
         Chained::Refused(r) => pack::refusal(r),
         Chained::Length(length) => pack::fields(0, 0, 0, length),
+    }
+}
+
+// Marking a pupil's list on a sheet.
+#[no_mangle]
+pub extern "C" fn oboefinch_mark(
+    sheet: &[u8],
+    lines: &[u8],
+    clocks: &mut [u16],
+    masks: &mut [u32],
+    values: &mut [u16],
+    marks: &mut [u8],
+) -> u64
+    ensures { λ r. ⌜ (r, work (now (clocks .exit)) (now (masks .exit)) (now (values .exit)), now (marks .exit))
+        ≡ with-output mark-fields
+        (marking (now (sheet .entry)) (now (lines .entry)) (work (now (clocks .entry)) (now (masks .entry)) (now (values .entry))) (now (marks .entry))) ⌝ }
+{
+    match marks::mark(sheet, lines, clocks, masks, values, marks) {
+        Marked::Refused(r) => pack::refusal(r),
+        Marked::Done(total, count) => pack::fields(0, 0, total, count),
     }
 }
 

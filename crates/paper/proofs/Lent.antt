@@ -17,6 +17,7 @@ use Rattle.paper.specs.Class.{list-checks, class-number, class}
 use Rattle.paper.specs.Clock.{most-processes, most-events}
 use Rattle.paper.specs.Event.{Event, how-many, events-of}
 use Rattle.paper.specs.Machine.{start, answers, clocked}
+use Rattle.paper.specs.Marking.{line-count, wrong-lines, mark, marks, marking-refusal, marking}
 use Rattle.paper.specs.Questions.{list-refusal, list-work, writing-refusal, writing, comparing-refusal, comparing}
 use Rattle.paper.specs.Questions.{no-such, judged, chaining-refusal, chaining}
 use Rattle.paper.specs.Reading.{header-checks, reading-refusal, reading}
@@ -24,6 +25,7 @@ use Rattle.paper.specs.Refusals.{first, Refusal, of-call, _then_}
 use Rattle.paper.specs.Sheet.{processes-in, list-offset, list-size, list-in, written}
 use Rattle.paper.proofs.ChainRight.{chain-right}
 use Rattle.paper.proofs.Laws.Append.{length-answers}
+use Rattle.paper.proofs.Laws.Masks.{length-upto}
 use Rattle.paper.proofs.Laws.Runs.{clocked-few, clocked-all, length-events}
 use Rattle.paper.proofs.Laws.Stores.{length-laid}
 use Rattle.paper.proofs.Laws.Tables.{cond-cases}
@@ -31,6 +33,7 @@ use Rattle.paper.proofs.Lent.Stamps.{slots-fit}
 use Rattle.paper.proofs.RoundTrip.{list-accepted, writing-number}
 use Rattle.paper.proofs.Sheets.Checks.{not-below, below, equal, neither, in-order, last, both, Room, room, list-passed}
 use Rattle.paper.proofs.Sheets.Header.{header-says}
+use Rattle.paper.proofs.TotalRight.{marking-number}
 use Rattle.paper.proofs.Verdicts.{verdict-right}
 
 pub record SameLengths (v w : Work) : Type 0 where
@@ -182,6 +185,22 @@ module _ (n : ℕ) (list : List ℕ) (w : Work) where
         (λ h. let f = chain-few a b out h in (omega arith, omega arith)),
   )
 
+-- 30 writes nothing; behind it the checks are those of reading, and 21.
+marking-lent :
+    (b lines : List ℕ) (w : Work) (out : List ℕ)
+    → SameLengths (marking b lines w out .1) w × (length (marking b lines w out .2) ≡ length out)
+unfolding marking marking-refusal marks written-to
+marking-lent b lines w out =
+    let n = processes-in b in
+    let r = reading-refusal b w in
+    let late = of-call (first (ltb (length out) (line-count lines)) 21 0) in
+    let ms = marks n (clocked n start (events-of (list-in b))) lines in (
+      cond-cases (λ v. SameLengths v w) (wrong-lines lines) _ _ (λ q. record { clocks = refl; masks = refl; values = refl })
+          (λ q. rw q (work-lent ((r then late) .number) n (list-in b) w (λ h. reading-passed b w (earlier r late h)))),
+      output-lent (marking-refusal b lines w out .number) (length ms) ms out
+          (λ h. (omega arith, omega (arith, marking-number b lines w out .0 h .1 .1, length-upto (mark n (clocked n start (events-of (list-in b))) lines) (line-count lines)))),
+    )
+
 -- Of every input of every call that is lent slices to write in.
 pub record Lent : Type 0 where
   pub read : (b : List ℕ) (w : Work) → SameLengths (reading b w .1) w
@@ -195,6 +214,9 @@ pub record Lent : Type 0 where
   pub chained :
       (n : ℕ) (list : List ℕ) (w : Work) (a b : ℕ) (out : List ℕ)
       → SameLengths (chaining n list w a b out .1) w × (length (chaining n list w a b out .2) ≡ length out)
+  pub marked :
+      (b lines : List ℕ) (w : Work) (out : List ℕ)
+      → SameLengths (marking b lines w out .1) w × (length (marking b lines w out .2) ≡ length out)
 
 pub lent : Lent
-lent = record { read = reading-lent; classed = class-lent; written = writing-lent; compared = comparing-lent; chained = chaining-lent }
+lent = record { read = reading-lent; classed = class-lent; written = writing-lent; compared = comparing-lent; chained = chaining-lent; marked = marking-lent }

@@ -10,6 +10,7 @@ pub mod Causality
 pub mod LamportBelow
 pub mod MergeFirst
 pub mod Verdicts
+pub mod TotalRight
 pub mod ChainRight
 pub mod Sheets
 pub mod ReadExactly
@@ -18,4 +19,5 @@ pub mod Elsewhere
 pub mod StampSays
 pub mod Lent
 pub mod Settled
+pub mod PupilA
 pub mod OneOutcome

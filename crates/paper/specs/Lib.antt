@@ -15,4 +15,5 @@ pub mod Sheet
 pub mod Reading
 pub mod Class
 pub mod Questions
+pub mod Marking
 pub mod Listing

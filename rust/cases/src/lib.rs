@@ -5,6 +5,7 @@ pub mod lengths;
 mod lists;
 mod offers;
 mod orders;
+mod pupils;
 pub mod random;
 mod readings;
 pub mod shapes;
@@ -24,10 +25,11 @@ pub enum Call {
     Write,
     Compare,
     Chain,
+    Mark,
     Order,
 }
 
-pub const ALL_CALLS: [Call; 8] = [
+pub const ALL_CALLS: [Call; 9] = [
     Call::Read,
     Call::ReadLamport,
     Call::Class,
@@ -35,6 +37,7 @@ pub const ALL_CALLS: [Call; 8] = [
     Call::Write,
     Call::Compare,
     Call::Chain,
+    Call::Mark,
     Call::Order,
 ];
 
@@ -45,10 +48,12 @@ pub struct Case {
     pub processes: usize,
     /// The sheet or the list.
     pub input: Vec<u8>,
+    /// The pupil's list.
+    pub lines: Vec<u8>,
     pub work: WorkLengths,
     /// Slots lent for the Lamport numbers.
     pub lamports: usize,
-    /// Slots lent for the answers of class mode, for the written sheet, or for the chain.
+    /// Slots lent for the answers of class mode, for the written sheet, for the chain, or for the marks.
     pub output: usize,
     pub positions: (usize, usize),
     pub clocks: (Vec<u16>, Vec<u16>),
@@ -57,7 +62,7 @@ pub struct Case {
 /// The case of a seed; the same seed always gives the same case.
 pub fn case_of(seed: u64) -> Case {
     let mut random = Random::new(seed);
-    match random.below(31) {
+    match random.below(35) {
         0..=6 => readings::case(&mut random),
         7..=10 => lists::class_case(&mut random),
         11..=13 => lists::write_case(&mut random),
@@ -65,6 +70,7 @@ pub fn case_of(seed: u64) -> Case {
         16..=18 => lists::chain_case(&mut random),
         19..=24 => readings::lamport_case(&mut random),
         25..=29 => lists::class_lamport_case(&mut random),
+        30..=33 => pupils::case(&mut random),
         _ => orders::case(&mut random),
     }
 }

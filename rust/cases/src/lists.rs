@@ -1,5 +1,6 @@
 //! Cases of the calls that are lent an event list: class mode, writing and the questions.
 
+use second::calls::room_for_chain;
 use second::clock::MOST_PROCESSES;
 use second::event::{events_of, list_of, Event, MOST_EVENTS, RECORD_SIZE};
 use second::judge::whole_list;
@@ -11,8 +12,6 @@ use crate::lengths::{chosen_length, WorkLengths};
 use crate::random::Random;
 use crate::shapes::{Bad, Script, Shape, ALL_SHAPES, OFFER_CHECKS};
 use crate::{Call, Case};
-
-const CHAIN_SLOTS: [usize; 8] = [512, 512, 512, 512, 600, 600, 511, 0];
 
 /// A list and the process count it was made for.
 pub struct Made {
@@ -57,8 +56,15 @@ pub fn chain_case(random: &mut Random) -> Case {
     } else {
         ends_of_a_long_chain(&case, random)
     };
-    case.output = random.pick(&CHAIN_SLOTS);
+    case.output = chain_slots(case.processes, random);
     case
+}
+
+fn chain_slots(processes: usize, random: &mut Random) -> usize {
+    let room = room_for_chain(processes.clamp(1, MOST_PROCESSES));
+    let one_less = room.saturating_sub(1);
+    let more = room + 88;
+    random.pick(&[room, room, room, room, more, more, one_less, 0])
 }
 
 /// A list of some shape and size.

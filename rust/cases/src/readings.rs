@@ -12,9 +12,9 @@ use crate::sheets::{place, Placed};
 use crate::{Call, Case};
 
 /// A sheet and what it needed before it was damaged.
-struct LentSheet {
-    sheet: Vec<u8>,
-    needed: WorkLengths,
+pub struct LentSheet {
+    pub sheet: Vec<u8>,
+    pub needed: WorkLengths,
 }
 
 pub fn case(random: &mut Random) -> Case {
@@ -38,7 +38,7 @@ pub fn lamport_case(random: &mut Random) -> Case {
     }
 }
 
-fn some_sheet(random: &mut Random) -> LentSheet {
+pub fn some_sheet(random: &mut Random) -> LentSheet {
     if random.one_in(25) {
         return garbage(random);
     }

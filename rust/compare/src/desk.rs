@@ -10,11 +10,12 @@ use crate::Difference;
 
 pub struct Desk {
     input: Lent<u8>,
+    lines: Lent<u8>,
     clocks: Lent<u16>,
     masks: Lent<u32>,
     values: Lent<u16>,
     lamports: Lent<u16>,
-    /// The answers of class mode, or the written sheet.
+    /// The answers of class mode, the written sheet, or the marks.
     bytes: Lent<u8>,
     chain: Lent<u16>,
     first_clock: Lent<u16>,
@@ -29,6 +30,7 @@ impl Desk {
         };
         Desk {
             input: Lent::holding(&case.input, around),
+            lines: Lent::holding(&case.lines, around),
             clocks: Lent::unwritten(case.work.clocks, around),
             masks: Lent::unwritten(case.work.masks, around),
             values: Lent::unwritten(case.work.values, around),
@@ -64,6 +66,10 @@ impl Desk {
                 let chain = self.chain.lend();
                 raw::chain(n, input, clocks, masks, values, asked, chain)
             }
+            Call::Mark => {
+                let lines = self.lines.contents();
+                raw::mark(input, lines, clocks, masks, values, self.bytes.lend())
+            }
             Call::Order => raw::order(self.first_clock.contents(), self.second_clock.contents()),
         }
     }
@@ -89,13 +95,14 @@ impl Desk {
             Call::Write => packed::write(n, input, work, self.bytes.lend()),
             Call::Compare => packed::compare(n, input, work, first, second),
             Call::Chain => packed::chain(n, input, work, first, second, self.chain.lend()),
+            Call::Mark => packed::mark(input, self.lines.contents(), work, self.bytes.lend()),
             Call::Order => packed::order(self.first_clock.contents(), self.second_clock.contents()),
         }
     }
 
     pub fn answers(&self, case: &Case) -> Vec<u8> {
         match case.call {
-            Call::Class | Call::ClassLamport => self.bytes.contents().to_vec(),
+            Call::Class | Call::ClassLamport | Call::Mark => self.bytes.contents().to_vec(),
             _ => Vec::new(),
         }
     }
@@ -104,11 +111,12 @@ impl Desk {
     pub fn check_surroundings(&self, case: &Case, side: &str) -> Result<(), Difference> {
         let guards = [
             (self.input.guards_hold(), "input"),
+            (self.lines.guards_hold(), "lines"),
             (self.clocks.guards_hold(), "clocks"),
             (self.masks.guards_hold(), "masks"),
             (self.values.guards_hold(), "values"),
             (self.lamports.guards_hold(), "lamports"),
-            (self.bytes.guards_hold(), "answers or sheet"),
+            (self.bytes.guards_hold(), "answers, sheet or marks"),
             (self.chain.guards_hold(), "chain"),
             (self.first_clock.guards_hold(), "first clock"),
             (self.second_clock.guards_hold(), "second clock"),
@@ -117,6 +125,7 @@ impl Desk {
             return Err(Difference(format!("{side} wrote beside the {buffer}")));
         }
         let inputs_hold = self.input.contents() == case.input
+            && self.lines.contents() == case.lines
             && self.first_clock.contents() == case.clocks.0
             && self.second_clock.contents() == case.clocks.1;
         if !inputs_hold {
@@ -132,7 +141,7 @@ impl Desk {
             ("values", self.values.first_difference(&second.values)),
             ("lamports", self.lamports.first_difference(&second.lamports)),
             (
-                "answers or sheet",
+                "answers, sheet or marks",
                 self.bytes.first_difference(&second.bytes),
             ),
             ("chain", self.chain.first_difference(&second.chain)),

@@ -18,7 +18,7 @@ const AROUND_THE_SECOND: u64 = 2;
 #[derive(Clone, Debug, PartialEq, Eq)]
 pub struct Agreed {
     pub packed: u64,
-    /// The answers of class mode; empty for other calls.
+    /// The answers of class mode or the marks; empty for other calls.
     pub answers: Vec<u8>,
 }
 

@@ -8,7 +8,7 @@ use cases::Case;
 
 use crate::Difference;
 
-/// Gives the text file's name; the input stands beside it as a .bin file.
+/// Gives the text file's name; the input stands beside it as a .bin file, the pupil's list as a .lines file.
 pub fn write(
     folder: &Path,
     seed: u64,
@@ -19,6 +19,7 @@ pub fn write(
     let text_file = folder.join(format!("case-{seed}.txt"));
     let input_file = text_file.with_extension("bin");
     fs::write(&input_file, &case.input)?;
+    fs::write(text_file.with_extension("lines"), &case.lines)?;
     fs::write(&text_file, text(seed, case, difference))?;
     Ok(text_file)
 }
@@ -31,6 +32,7 @@ fn text(seed: u64, case: &Case, difference: &Difference) -> String {
         format!("seed of the case {seed}"),
         format!("process count {}", case.processes),
         format!("input bytes {}", case.input.len()),
+        format!("bytes of the pupil's list {}", case.lines.len()),
         format!("clock slots {}", work.clocks),
         format!("mask slots {}", work.masks),
         format!("value slots {}", work.values),

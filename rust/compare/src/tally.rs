@@ -3,7 +3,8 @@
 use std::collections::BTreeMap;
 
 use cases::{Call, Case};
-use oboefinch::{Answer, MOST_EVENTS, MOST_PROCESSES, RECORD_SIZE};
+use oboefinch::{Answer, MOST_EVENTS, MOST_LINES, MOST_PROCESSES, RECORD_SIZE};
+use second::clock::ALL_VERDICTS;
 
 use crate::Agreed;
 
@@ -16,6 +17,9 @@ pub enum Seen {
     Offer(u8),
     Verdict(Call, usize),
     ChainLength(usize),
+    /// The mark of one line.
+    Mark(u8),
+    Lines(usize),
     MostEvents(Call),
     MostProcesses(Call),
 }
@@ -51,6 +55,7 @@ impl Tally {
             Call::Compare | Call::Order => self.count(Seen::Verdict(call, answer.x)),
             Call::Chain => self.count(Seen::ChainLength(answer.z.min(LONGEST_TOLD_CHAIN))),
             Call::Class | Call::ClassLamport => self.add_offers(case, agreed),
+            Call::Mark => self.add_marks(agreed, answer),
             Call::Read | Call::ReadLamport | Call::Write => {}
         }
         if COUNTING_EVENTS.contains(&call) && answer.y == MOST_EVENTS {
@@ -72,6 +77,13 @@ impl Tally {
         }
     }
 
+    fn add_marks(&mut self, agreed: &Agreed, answer: Answer) {
+        self.count(Seen::Lines(answer.z));
+        for mark in &agreed.answers[..answer.z] {
+            self.count(Seen::Mark(*mark));
+        }
+    }
+
     fn count(&mut self, seen: Seen) {
         *self.counts.entry(seen).or_default() += 1;
     }
@@ -89,10 +101,12 @@ impl Tally {
         }
         wanted.push(Seen::Offer(0));
         wanted.extend((10..=16).map(Seen::Offer));
-        for verdict in 1..=3 {
-            wanted.push(Seen::Verdict(Call::Compare, verdict));
-            wanted.push(Seen::Verdict(Call::Order, verdict));
+        for verdict in ALL_VERDICTS {
+            wanted.push(Seen::Verdict(Call::Compare, verdict as usize));
+            wanted.push(Seen::Verdict(Call::Order, verdict as usize));
         }
+        wanted.extend([Seen::Mark(0), Seen::Mark(1)]);
+        wanted.extend([Seen::Lines(0), Seen::Lines(MOST_LINES)]);
         wanted.extend((0..=LONGEST_TOLD_CHAIN).map(Seen::ChainLength));
         for call in COUNTING_EVENTS {
             wanted.push(Seen::MostEvents(call));
@@ -120,6 +134,9 @@ fn numbers_of(call: Call) -> &'static [u8] {
         Call::Write => &[0, 4, 8, 9, 10, 11, 12, 13, 14, 15, 16, 21],
         Call::Compare => &[0, 4, 8, 9, 10, 11, 12, 13, 14, 15, 16, 20],
         Call::Chain => &[0, 4, 8, 9, 10, 11, 12, 13, 14, 15, 16, 20, 21, 22],
+        Call::Mark => &[
+            0, 1, 2, 3, 4, 5, 6, 7, 9, 10, 11, 12, 13, 14, 15, 16, 18, 19, 21, 30,
+        ],
         Call::Order => &[0, 4],
     }
 }

@@ -1,4 +1,4 @@
-//! The box's calls with buffers of given lengths: 9 and 21, which no program can get, since programs lend enough.
+//! The box's calls with buffers of given lengths: 9 and 21, which no program can get, since programs lend enough; and 30.
 
 use std::fs;
 use std::path::Path;
@@ -22,7 +22,7 @@ fn each_call_of_the_box_gives_what_it_says() {
         assert_eq!(said(&answer), gives, "{path:?}");
         seen.push(answer.number);
     }
-    assert!(seen.contains(&9) && seen.contains(&21));
+    assert!([9, 21, 30].iter().all(|number| seen.contains(number)));
 }
 
 fn said(answer: &Answer) -> String {
@@ -42,6 +42,7 @@ fn case_of(text: &str) -> (Case, String) {
             "call" => case.call = call_of(rest),
             "processes" => case.processes = numbers(rest)[0],
             "input" => case.input = fs::read(Path::new(BOX).join(rest)).unwrap(),
+            "lines" => case.lines = fs::read(Path::new(BOX).join(rest)).unwrap(),
             "work" => case.work = work_of(&numbers(rest)),
             "lamports" => case.lamports = numbers(rest)[0],
             "output" => case.output = numbers(rest)[0],
@@ -62,6 +63,7 @@ fn call_of(name: &str) -> Call {
         "write" => Call::Write,
         "compare" => Call::Compare,
         "chain" => Call::Chain,
+        "mark" => Call::Mark,
         _ => panic!("no such call: {name}"),
     }
 }

@@ -4,14 +4,17 @@ use cases::lengths::WorkLengths;
 use cases::{Call, Case, ALL_CALLS};
 use compare::run;
 use oboefinch::{
-    chain, class, class_lamport, compare, order, read, read_lamport, write, Refusal, Verdict,
+    chain, class, class_lamport, compare, mark, order, read, read_lamport, write, Refusal, Verdict,
 };
 use second::event::{list_of, Event};
 use second::examples::{
     events_of_b, list_a, LAMPORTS_OF_A, PROCESSES_OF_A, PROCESSES_OF_B, SHEET_A,
 };
+use second::marking::{bytes_of, Line};
 use second::sheet::{compose, header_bytes};
 use second::text;
+
+const LENT_A_SHEET: [Call; 3] = [Call::Read, Call::ReadLamport, Call::Mark];
 
 fn refusal(number: u8, position: u16) -> Refusal {
     Refusal { number, position }
@@ -171,15 +174,26 @@ fn both_sides_agree_on_every_pair_of_sheet_a() {
     }
 }
 
+/// Lines with every known verdict and some that are not.
+fn every_verdict_on((first, second): (usize, usize)) -> Vec<Line> {
+    let line = |verdict| Line {
+        first: first as u16,
+        second: second as u16,
+        verdict,
+    };
+    [0, 1, 2, 3, 4, 5, 255, 257, 65_535].map(line).to_vec()
+}
+
 fn case_of_a(call: Call, positions: (usize, usize)) -> Case {
     let input = match call {
-        Call::Read | Call::ReadLamport => SHEET_A.to_vec(),
+        Call::Read | Call::ReadLamport | Call::Mark => SHEET_A.to_vec(),
         _ => list_a().to_vec(),
     };
     Case {
         call,
         processes: PROCESSES_OF_A,
         input,
+        lines: bytes_of(&every_verdict_on(positions)),
         work: WorkLengths::needed(PROCESSES_OF_A, 8),
         lamports: 10,
         output: 512,
@@ -192,7 +206,7 @@ fn case_of_a(call: Call, positions: (usize, usize)) -> Case {
 fn both_sides_agree_on_sheet_a_with_each_bit_changed() {
     for place in 0..SHEET_A.len() {
         for bit in 0..8 {
-            for call in [Call::Read, Call::ReadLamport] {
+            for call in LENT_A_SHEET {
                 let mut case = case_of_a(call, (0, 0));
                 case.input[place] ^= 1 << bit;
                 case.work = WorkLengths::needed(32, 16);
@@ -205,11 +219,65 @@ fn both_sides_agree_on_sheet_a_with_each_bit_changed() {
 #[test]
 fn both_sides_agree_on_sheet_a_cut_and_lengthened() {
     for length in 0..160 {
-        for call in [Call::Read, Call::ReadLamport] {
+        for call in LENT_A_SHEET {
             let mut case = case_of_a(call, (0, 0));
             case.input.resize(length, 0);
             agree(&case);
         }
+    }
+}
+
+fn line(first: u16, second: u16, verdict: u16) -> Line {
+    Line {
+        first,
+        second,
+        verdict,
+    }
+}
+
+#[test]
+fn a_pupils_list_is_marked_on_a() {
+    let lines = [
+        line(1, 3, 3),
+        line(1, 7, 1),
+        line(7, 0, 2),
+        line(1, 7, 2),
+        line(8, 0, 3),
+        line(1, 7, 0),
+        line(1, 7, 4),
+        line(1, 7, 65_535),
+    ];
+    let marked = mark(SHEET_A, &bytes_of(&lines)).unwrap();
+    assert_eq!(marked.marks, [1, 1, 1, 0, 0, 0, 0, 0]);
+    assert_eq!(marked.total, 3);
+}
+
+#[test]
+fn a_pupils_list_is_looked_at_before_the_sheet() {
+    let right = bytes_of(&[line(1, 7, 1); 201]);
+    assert_eq!(mark(SHEET_A, &right[..1_200]).unwrap().total, 200);
+    assert_eq!(mark(SHEET_A, &[]).unwrap().marks, []);
+    for length in [1, 5, 7, 1_199, 1_201, 1_206] {
+        assert_eq!(mark(&[], &right[..length]), Err(refusal(30, 0)));
+    }
+    assert_eq!(mark(&[], &right[..6]), Err(refusal(1, 0)));
+}
+
+#[test]
+fn both_sides_agree_on_pupils_lists_of_every_length() {
+    for length in 0..1_210 {
+        let mut case = case_of_a(Call::Mark, (1, 7));
+        case.lines.resize(length, 1);
+        agree(&case);
+    }
+}
+
+#[test]
+fn both_sides_agree_on_every_room_for_marks() {
+    for room in 0..12 {
+        let mut case = case_of_a(Call::Mark, (1, 7));
+        case.output = room;
+        agree(&case);
     }
 }
 

@@ -4,10 +4,14 @@ use crate::clock::{is_process_count, verdict, Verdict};
 use crate::event::{MOST_EVENTS, MOST_LIST_BYTES, RECORD_SIZE};
 use crate::judge::{carried_values, each_offer, only_accepted, whole_list};
 use crate::machine::Accepted;
+use crate::marking::{lines_of, marks_of, total};
 use crate::sheet::{compose, judge_parts, stamp_bytes, Header};
 use crate::{questions, Check, Refusal};
 
-pub const CHAIN_SLOTS: usize = MOST_EVENTS;
+/// "fewer than 512 slots for the chain", whatever the process count.
+pub fn room_for_chain(_n: usize) -> usize {
+    MOST_EVENTS
+}
 
 /// The work buffers that every call but `order` is lent.
 pub struct Work<'a> {
@@ -83,18 +87,19 @@ pub struct Written {
     pub bytes: usize,
 }
 
+#[derive(Clone, Copy, Debug, PartialEq, Eq)]
+pub struct Marked {
+    pub total: usize,
+    pub lines: usize,
+}
+
 /// Checks 1 to 7, 9, events in order, then stamps.
 pub fn read(sheet: &[u8], mut work: Work) -> Result<Reading, Refusal> {
-    let header = Header::of(sheet).map_err(Check::of_no_event)?;
-    let n = header.processes;
-    let m = header.events.len() / RECORD_SIZE;
-    work.check_room(n, m)?;
-    work.clear(n, m);
-    let accepted = judge_parts(sheet, &header)?;
+    let (n, accepted) = judge_lent_sheet(sheet, &mut work)?;
     work.fill(n, &accepted);
     Ok(Reading {
         processes: n,
-        events: m,
+        events: accepted.len(),
         entries: carried_values(&accepted).len(),
     })
 }
@@ -187,7 +192,7 @@ pub fn chain(
 ) -> Result<usize, Refusal> {
     let accepted = judge_lent_list(n, list, &mut work)?;
     let sends = questions::chain(&accepted, first, second)?;
-    if output.len() < CHAIN_SLOTS {
+    if output.len() < room_for_chain(n) {
         return Err(Check::OutputLength.of_no_event());
     }
     for (slot, send) in output.iter_mut().zip(&sends) {
@@ -195,6 +200,27 @@ pub fn chain(
     }
     work.fill(n, &accepted);
     Ok(sends.len())
+}
+
+/// Check 30 "before the sheet; then 1 to 19 as in reading; then 21, fewer mark slots than lines".
+pub fn mark(
+    sheet: &[u8],
+    list: &[u8],
+    mut work: Work,
+    output: &mut [u8],
+) -> Result<Marked, Refusal> {
+    let lines = lines_of(list)?;
+    let (n, accepted) = judge_lent_sheet(sheet, &mut work)?;
+    if output.len() < lines.len() {
+        return Err(Check::OutputLength.of_no_event());
+    }
+    let marks = marks_of(&lines, &accepted);
+    output[..marks.len()].copy_from_slice(&marks);
+    work.fill(n, &accepted);
+    Ok(Marked {
+        total: total(&marks),
+        lines: lines.len(),
+    })
 }
 
 /// "Comparing two lent clocks: 4 only."
@@ -214,6 +240,17 @@ pub(crate) fn count_lent_events(n: usize, list: &[u8]) -> Result<usize, Refusal>
         return Err(Check::ListLength.of_no_event());
     }
     Ok(list.len() / RECORD_SIZE)
+}
+
+/// Checks 1 to 7, 9, events in order, then stamps; past check 9 the named slots are 0.
+fn judge_lent_sheet(sheet: &[u8], work: &mut Work) -> Result<(usize, Vec<Accepted>), Refusal> {
+    let header = Header::of(sheet).map_err(Check::of_no_event)?;
+    let n = header.processes;
+    let m = header.events.len() / RECORD_SIZE;
+    work.check_room(n, m)?;
+    work.clear(n, m);
+    let accepted = judge_parts(sheet, &header)?;
+    Ok((n, accepted))
 }
 
 /// Checks 4, 8, 9 and events in order; past check 9 the named slots are 0.

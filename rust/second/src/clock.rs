@@ -14,6 +14,10 @@ pub enum Verdict {
     Neither = 3,
 }
 
+/// The known verdicts.
+pub const ALL_VERDICTS: [Verdict; 3] =
+    [Verdict::FirstBelow, Verdict::SecondBelow, Verdict::Neither];
+
 /// "Clock V is below W when no component of V exceeds W's and the two differ".
 pub fn is_below(v: &[u16], w: &[u16]) -> bool {
     let none_exceeds = v.iter().zip(w).all(|(in_v, in_w)| in_v <= in_w);

@@ -9,6 +9,7 @@ pub mod event;
 pub mod examples;
 pub mod judge;
 pub mod machine;
+pub mod marking;
 pub mod packed;
 pub mod questions;
 pub mod refusal;

@@ -1,4 +1,4 @@
-//! The five programs of the second program: `second PROGRAM [ARGUMENT...]`, sheet or list on standard input.
+//! The six programs of the second program: `second PROGRAM [ARGUMENT...]`, sheet or list on standard input.
 
 use std::io::{Read, Write};
 use std::process::ExitCode;
@@ -16,7 +16,7 @@ fn main() -> ExitCode {
         return ExitCode::FAILURE;
     }
     let Some(printed) = run(&words, &input) else {
-        eprintln!("usage: second listing|compare|chain|class|write [ARGUMENT...]");
+        eprintln!("usage: second listing|compare|chain|class|write|marker [ARGUMENT...]");
         return ExitCode::FAILURE;
     };
     let out = std::io::stdout().write_all(&printed.output);
@@ -35,6 +35,11 @@ fn run(words: &[&str], input: &[u8]) -> Option<Printed> {
         "chain" => Some(text::chain(arguments, input)),
         "class" => Some(text::class(arguments, input)),
         "write" => Some(text::write(arguments, input)),
+        "marker" => Some(text::marker(first_file(arguments).as_deref(), input)),
         _ => None,
     }
+}
+
+fn first_file(arguments: &[&str]) -> Option<Vec<u8>> {
+    std::fs::read(arguments.first()?).ok()
 }

@@ -53,6 +53,13 @@ pub fn chain(
     }
 }
 
+pub fn mark(sheet: &[u8], list: &[u8], work: Work, output: &mut [u8]) -> u64 {
+    match calls::mark(sheet, list, work, output) {
+        Ok(marked) => pack(0, 0, marked.total, marked.lines),
+        Err(refusal) => refused(refusal),
+    }
+}
+
 pub fn order(first: &[u16], second: &[u16]) -> u64 {
     match calls::order(first, second) {
         Ok(verdict) => pack(0, verdict as usize, 0, 0),

@@ -1,4 +1,4 @@
-//! The refusal numbers of the paper's table, and a refusal with its position.
+//! The refusal numbers of the paper's table and of the later requests, and a refusal with its position.
 
 #[derive(Clone, Copy, Debug, PartialEq, Eq, PartialOrd, Ord)]
 #[repr(u8)]
@@ -24,6 +24,7 @@ pub enum Check {
     Position = 20,
     OutputLength = 21,
     NotBefore = 22,
+    PupilsLines = 30,
 }
 
 impl Check {

@@ -1,9 +1,10 @@
-//! What the five programs print, given their arguments and standard input.
+//! What the six programs print, given their arguments and standard input.
 
 use crate::calls::count_lent_events;
 use crate::event::{RECEIVE, SEND};
 use crate::judge::{carried_values, each_offer, only_accepted, whole_list};
 use crate::machine::Accepted;
+use crate::marking::{lines_of, marks_of, total};
 use crate::sheet::{compose, judge_parts, stamp_bytes, Header};
 use crate::{questions, Check, Refusal};
 
@@ -65,6 +66,18 @@ pub fn write(arguments: &[&str], input: &[u8]) -> Printed {
     }
 }
 
+/// `list` is what the named file holds; none where no file is named or it can't be read.
+pub fn marker(list: Option<&[u8]>, input: &[u8]) -> Printed {
+    let Some(list) = list else {
+        return usage("marker FILE");
+    };
+    let marks = lines_of(list).and_then(|lines| {
+        let (_, accepted) = read_sheet(input)?;
+        Ok(marks_of(&lines, &accepted))
+    });
+    text_or_refusal(marks.map(|marks| marks_text(&marks)))
+}
+
 /// Reading without work buffers, so that check 9 cannot arise.
 fn read_sheet(input: &[u8]) -> Result<(usize, Vec<Accepted>), Refusal> {
     let header = Header::of(input).map_err(Check::of_no_event)?;
@@ -100,6 +113,15 @@ fn class_text(n: usize, list: &[u8]) -> String {
         text += "\n";
     }
     text
+}
+
+/// "a line `P M` for each line of the list (its place from 0, its mark), then `total T of L`".
+fn marks_text(marks: &[u8]) -> String {
+    let mut text = String::new();
+    for (place, mark) in marks.iter().enumerate() {
+        text += &format!("{place} {mark}\n");
+    }
+    text + &format!("total {} of {}\n", total(marks), marks.len())
 }
 
 type EventLine = fn(usize, usize, &Accepted) -> String;

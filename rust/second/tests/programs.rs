@@ -1,8 +1,9 @@
-//! What the five programs print.
+//! What the six programs print.
 
 use second::event::{list_of, Event};
 use second::examples::{list_a, LAMPORTS_OF_A, LISTING_OF_A, SHEET_A};
-use second::text::{chain, class, compare, listing, write, Printed};
+use second::marking::{bytes_of, Line};
+use second::text::{chain, class, compare, listing, marker, write, Printed};
 
 fn on_output(text: &str) -> Printed {
     Printed {
@@ -99,6 +100,29 @@ fn write_puts_the_sheet_on_output_and_refusals_on_error() {
     assert_eq!(write(&["33"], list_a()), on_error("refused 4 at 0\n"));
     assert_eq!(write(&["3"], &[0; 9]), on_error("refused 8 at 0\n"));
     assert_eq!(write(&["2"], list_a()), on_error("refused 11 at 1\n"));
+}
+
+#[test]
+fn marker_prints_each_mark_and_the_total() {
+    let list = bytes_of(&[
+        Line {
+            first: 1,
+            second: 7,
+            verdict: 1,
+        },
+        Line {
+            first: 1,
+            second: 7,
+            verdict: 2,
+        },
+    ]);
+    let marked = on_output("0 1\n1 0\ntotal 1 of 2\n");
+    assert_eq!(marker(Some(&list), SHEET_A), marked);
+    let no_lines = on_output("total 0 of 0\n");
+    assert_eq!(marker(Some(&[]), SHEET_A), no_lines);
+    assert_eq!(marker(Some(&[0]), &[]), on_output("refused 30 at 0\n"));
+    assert_eq!(marker(Some(&list), &[]), on_output("refused 1 at 0\n"));
+    assert_eq!(marker(None, SHEET_A), on_error("usage: marker FILE\n"));
 }
 
 #[test]

@@ -25,6 +25,10 @@
 //!
 //! let (_, lamports) = oboefinch::read_lamport(sheet_a)?;
 //! assert_eq!(lamports, [1, 1, 2, 3, 4, 5, 4, 6]);
+//!
+//! let pupil = b"\x01\0\x03\0\x03\0\x01\0\x07\0\x02\0";
+//! let marked = oboefinch::mark(sheet_a, pupil)?;
+//! assert_eq!((marked.marks, marked.total), (vec![1, 0], 1));
 //! # Ok::<(), oboefinch::Refusal>(())
 //! ```
 
@@ -40,6 +44,7 @@ pub const MOST_PROCESSES: usize = 32;
 pub const MOST_EVENTS: usize = 512;
 pub const MOST_SHEET_BYTES: usize = 40_960;
 pub const RECORD_SIZE: usize = 8;
+pub const MOST_LINES: usize = 200;
 
 /// The clocks and stamps of the accepted events, in order.
 #[derive(Clone, Debug, PartialEq, Eq)]
@@ -62,6 +67,13 @@ pub struct Class {
 pub struct Written {
     pub sheet: Vec<u8>,
     pub accepted: Reading,
+}
+
+/// 1 or 0 for each line of a pupil's list, and how many are 1.
+#[derive(Clone, Debug, PartialEq, Eq)]
+pub struct Marked {
+    pub marks: Vec<u8>,
+    pub total: usize,
 }
 
 /// How the first of two events, or clocks, stands to the second.
@@ -230,6 +242,26 @@ pub fn chain(
     let answer = Answer::accepted(packed)?;
     sends.truncate(answer.z);
     Ok(sends)
+}
+
+/// Marks a pupil's list, whose lines are 6 bytes each, on a sheet.
+pub fn mark(sheet: &[u8], lines: &[u8]) -> Result<Marked, Refusal> {
+    let mut work = Work::largest();
+    let mut marks = vec![0; MOST_LINES];
+    let packed = raw::mark(
+        sheet,
+        lines,
+        &mut work.clocks,
+        &mut work.masks,
+        &mut work.values,
+        &mut marks,
+    );
+    let answer = Answer::accepted(packed)?;
+    marks.truncate(answer.z);
+    Ok(Marked {
+        marks,
+        total: answer.y,
+    })
 }
 
 /// Compares two clocks of the same length.

@@ -99,6 +99,21 @@ extern "C" {
         chain_length: usize,
     ) -> u64;
 
+    fn oboefinch_mark(
+        sheet: *const u8,
+        sheet_length: usize,
+        lines: *const u8,
+        lines_length: usize,
+        clocks: *mut u16,
+        clocks_length: usize,
+        masks: *mut u32,
+        masks_length: usize,
+        values: *mut u16,
+        values_length: usize,
+        marks: *mut u8,
+        marks_length: usize,
+    ) -> u64;
+
     fn oboefinch_order(
         first: *const u16,
         first_length: usize,
@@ -281,6 +296,34 @@ pub fn chain(
             positions.1,
             chain.as_mut_ptr(),
             chain.len(),
+        )
+    }
+}
+
+/// `lines` are 6 bytes each: two positions and a verdict.
+pub fn mark(
+    sheet: &[u8],
+    lines: &[u8],
+    clocks: &mut [u16],
+    masks: &mut [u32],
+    values: &mut [u16],
+    marks: &mut [u8],
+) -> u64 {
+    // SAFETY: each pointer comes with its own slice's length; the call keeps none of them.
+    unsafe {
+        oboefinch_mark(
+            sheet.as_ptr(),
+            sheet.len(),
+            lines.as_ptr(),
+            lines.len(),
+            clocks.as_mut_ptr(),
+            clocks.len(),
+            masks.as_mut_ptr(),
+            masks.len(),
+            values.as_mut_ptr(),
+            values.len(),
+            marks.as_mut_ptr(),
+            marks.len(),
         )
     }
 }

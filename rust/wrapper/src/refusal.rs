@@ -39,6 +39,7 @@ fn sentence(number: u8) -> &'static str {
         20 => "an asked position is not below the event count",
         21 => "the output is too short",
         22 => "the first event is not before the second",
+        30 => "the pupil's list is not whole lines or has more than 200",
         _ => "the library gave a number that the table does not have",
     }
 }
@@ -61,9 +62,9 @@ mod tests {
 
     #[test]
     fn each_number_of_the_table_has_its_own_sentence() {
-        let used = (1..=22).filter(|number| *number != 17);
+        let used = (1..=22).filter(|number| *number != 17).chain([30]);
         let sentences: std::collections::BTreeSet<&str> = used.map(sentence).collect();
-        assert_eq!(sentences.len(), 21);
+        assert_eq!(sentences.len(), 22);
         assert!(!sentences.contains(sentence(17)));
     }
 

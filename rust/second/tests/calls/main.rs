@@ -2,5 +2,6 @@
 
 mod desk;
 mod lamports;
+mod marks;
 mod paper;
 mod refusals;

@@ -1,0 +1,3 @@
+mod Row
+mod Loop
+pub mod Judged

@@ -1,0 +1,153 @@
+// A pupil's list marked on a sheet: 1 mark or 0 for each line, and the total.
+ghost use mathlib.Core.Path.{_≡_};
+ghost use Prim.Native.Nat.{_+_, _*_, _≤_, _<_};
+ghost use lib.Dec.{eqb};
+ghost use lib.ListN.{length};
+ghost use lib.Seq.{sets};
+ghost use Rattle.paper.specs.Bytes as bytes;
+ghost use Rattle.paper.specs.Marking.{line-count, marking};
+ghost use Rattle.paper.specs.Order.{verdict};
+ghost use Rattle.paper.specs.Refusals as paper;
+ghost use Rattle.clock.specs.Said as said;
+ghost use Rattle.course.specs.Said.{work};
+ghost use Rattle.order.specs.Stands.{row};
+ghost use Rattle.marks.specs.Rows.{Slots, row-mark, row-marks, row-total, judging};
+ghost use Rattle.marks.specs.Said.{marked};
+use clock::Ordered;
+use clock::Position;
+use clock::Refusal;
+use clock::Verdict;
+use sheet::Reading;
+
+// What marking answers: the total, and of how many lines.
+pub enum Marked {
+    Refused(Refusal),
+    Done(usize, usize),
+}
+
+fn wide(x: u8) -> usize
+    ensures { λ r. ⌜ (r ≡ x) × (r < 256) ⌝ }
+{
+    x as usize
+}
+
+// The number in the two bytes from k on.
+fn two(lines: &[u8], k: usize) -> usize
+    requires { ⌜ (k + 2 ≤ length (now lines)) × (k ≤ 1200) ⌝ }
+    ensures { λ r. ⌜ r ≡ bytes.two (now (lines .entry)) k ⌝ }
+{
+    wide(lines[k]) + 256 * wide(lines[k + 1])
+}
+
+fn number(v: Verdict) -> usize
+    ensures { λ r. ⌜ r ≡ said.number v ⌝ }
+{
+    match v {
+        Verdict::Before => 1,
+        Verdict::After => 2,
+        Verdict::Neither => 3,
+    }
+}
+
+// Whether a verdict is the one on the clocks of two events, whose n slots each begin at n times the position.
+fn is_verdict(n: usize, clocks: &[u16], first: usize, second: usize, given: usize) -> bool
+    requires { ⌜ (1 ≤ n) × (n ≤ 32) × (first < 512) × (second < 512)
+        × (n * first + n ≤ length (now clocks)) × (n * second + n ≤ length (now clocks)) ⌝ }
+    ensures { λ r. ⌜ r ≡ eqb given (verdict n (row n (now (clocks .entry)) first) (row n (now (clocks .entry)) second)) ⌝ }
+{
+    let a = n * first;
+    let b = n * second;
+    match clock::order(&clocks[a..a + n], &clocks[b..b + n]) {
+        Ordered::Refused(_) => false,
+        Ordered::Judged(v) => given == number(v),
+    }
+}
+
+// The mark of the line at j.
+fn mark_at(n: usize, m: usize, clocks: &[u16], lines: &[u8], j: usize) -> u8
+    requires { ⌜ Slots n m (now clocks) × (6 * j + 6 ≤ length (now lines)) × (j < 200) ⌝ }
+    ensures { λ r. ⌜ r ≡ row-mark n m (now (clocks .entry)) (now (lines .entry)) j ⌝ }
+{
+    let first = two(lines, 6 * j);
+    let second = two(lines, 6 * j + 2);
+    let given = two(lines, 6 * j + 4);
+    if !(first < m) | !(second < m) {
+        return 0;
+    }
+    if is_verdict(n, clocks, first, second, given) {
+        return 1;
+    }
+    0
+}
+
+// The marks of all lines, at the front of the slots, and their total.
+fn mark_all(n: usize, m: usize, clocks: &[u16], lines: &[u8], marks: &mut [u8]) -> usize
+    requires { ⌜ Slots n m (now clocks) × (length (now lines) ≤ 1200) × (line-count (now lines) ≤ length (now marks)) ⌝ }
+    ensures { λ r. ⌜ (r ≡ row-total n m (now (clocks .entry)) (now (lines .entry)) (line-count (now (lines .entry))))
+        × (now (marks .exit) ≡ sets (now (marks .entry)) 0 (row-marks n m (now (clocks .entry)) (now (lines .entry)) (line-count (now (lines .entry))))) ⌝ }
+{
+    let k = lines.len() / 6;
+    let mut total: usize = 0;
+    let mut j: usize = 0;
+    while j < k {
+        let mark = mark_at(n, m, clocks, lines, j);
+        marks[j] = mark;
+        total += wide(mark);
+        j += 1;
+    }
+    total
+}
+
+// A refusal that concerns no event.
+fn of_call(number: u8) -> Refusal
+    ensures { λ r. ⌜ said.refusal r ≡ paper.of-call number ⌝ }
+{
+    Refusal {
+        number: number,
+        position: Position(0),
+    }
+}
+
+// The lines on m events of n processes, whose clocks stand in the slots: 21 where there are fewer mark slots than lines.
+fn judge(
+    n: usize,
+    m: usize,
+    lines: &[u8],
+    clocks: &mut [u16],
+    masks: &mut [u32],
+    values: &mut [u16],
+    marks: &mut [u8],
+) -> Marked
+    requires { ⌜ Slots n m (now clocks) × (length (now lines) ≤ 1200) ⌝ }
+    ensures { λ r. ⌜ (marked r, work (now (clocks .exit)) (now (masks .exit)) (now (values .exit)), now (marks .exit))
+        ≡ judging n m (now (lines .entry)) (work (now (clocks .entry)) (now (masks .entry)) (now (values .entry))) (now (marks .entry)) ⌝ }
+{
+    let k = lines.len() / 6;
+    if marks.len() < k {
+        course::clear(n, m, clocks, masks, values);
+        return Marked::Refused(of_call(21));
+    }
+    let total = mark_all(n, m, clocks, lines, marks);
+    Marked::Done(total, k)
+}
+
+// Marking a pupil's list on a sheet: 30, then as reading, then 21.
+pub fn mark(
+    sheet: &[u8],
+    lines: &[u8],
+    clocks: &mut [u16],
+    masks: &mut [u32],
+    values: &mut [u16],
+    marks: &mut [u8],
+) -> Marked
+    ensures { λ r. ⌜ (marked r, work (now (clocks .exit)) (now (masks .exit)) (now (values .exit)), now (marks .exit))
+        ≡ marking (now (sheet .entry)) (now (lines .entry)) (work (now (clocks .entry)) (now (masks .entry)) (now (values .entry))) (now (marks .entry)) ⌝ }
+{
+    if (lines.len() % 6 != 0) | (1200 < lines.len()) {
+        return Marked::Refused(of_call(30));
+    }
+    match sheet::read(sheet, clocks, masks, values) {
+        Reading::Refused(r) => Marked::Refused(r),
+        Reading::Accepted(c) => judge(c.processes, c.size / 8, lines, clocks, masks, values, marks),
+    }
+}
