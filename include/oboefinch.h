@@ -15,7 +15,7 @@
  *   mark              0                   0                the total        lines
  *
  * read_lamport answers as read does, class_lamport as class. A verdict is 1 where the first is before the second, 2 where it is after,
- * 3 where it is neither. The position is that of the event where an event or its stamp is refused, otherwise 0.
+ * 3 where it is neither, 4 where both clocks are equal: of two events of a list, where both are one event. The position is that of the event where an event or its stamp is refused, otherwise 0.
  *
  * Work buffers, for n processes and a list of m events (8 bytes each): clocks has at least n * m slots, masks m, values n * m, and
  * answers of class and lamports m; else the call is refused with 9. These are the named slots. A sheet is at most 40960 bytes. A chain

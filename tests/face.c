@@ -65,6 +65,7 @@ int main(int argc, char **argv)
     expect("the first clock after 21", 0, clocks[0]);
     expect("the marks after 21", 0, memcmp(marks, want_marks, sizeof marks) != 0);
     expect("read again", packed(0, 3, 8, 6), oboefinch_read(sheet, size, clocks, 24, masks, 8, values, 24));
+    expect("2 and 2", packed(0, 4, 0, 0), oboefinch_compare(3, list, 64, clocks, 24, masks, 8, values, 24, 2, 2));
     expect("order", packed(0, 1, 0, 0), oboefinch_order(clocks, 3, clocks + 21, 3));
     expect("a short sheet", packed(1, 0, 0, 0), oboefinch_read(sheet, 23, clocks, 24, masks, 8, values, 24));
     expect("a short buffer", packed(9, 0, 0, 0), oboefinch_read(sheet, size, clocks, 23, masks, 8, values, 24));

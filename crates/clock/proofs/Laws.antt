@@ -40,7 +40,7 @@ module _ (v w : List ℕ) where
 
   pub ordering-judged :
       (there back : Bool) → unfit (length v) (length w) ≡ false → there ≡ within (length v) v w → back ≡ within (length v) w v
-      → done (cond (there && not back) 1 (cond (back && not there) 2 3)) ≡ ordering v w
+      → done (cond (there && not back) 1 (cond (back && not there) 2 (cond (there && back) 4 3))) ≡ ordering v w
   unfolding ordering
   ordering-judged there back h p q = rw (same-test (length v) (length w), h, verdict-within (length v) v w, p, q)
 

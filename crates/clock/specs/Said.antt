@@ -4,17 +4,18 @@ use Rattle.clock.specs.declared.Ordered.{Ordered}
 use Rattle.clock.specs.declared.Ordered.the-variants as code
 use Rattle.clock.specs.declared.Refusal as declared
 use Rattle.clock.specs.declared.Verdict.{Verdict}
-use Rattle.clock.specs.declared.Verdict.the-variants.{Before, After, Neither}
+use Rattle.clock.specs.declared.Verdict.the-variants.{Before, After, Neither, Same}
 use Rattle.paper.specs.Refusals.{Refusal, Outcome, refused, done}
 
 abbrev pub refusal : declared.Refusal → Refusal
 refusal r = record { number = r .number; position = r .position .0 }
 
--- 1 the first is below, 2 the second is below, 3 neither.
+-- 1 the first is below, 2 the second is below, 4 they are the same, 3 none of these.
 abbrev pub number : Verdict → ℕ
 number Before = 1
 number After = 2
 number Neither = 3
+number Same = 4
 
 abbrev pub ordered : Ordered → Outcome ℕ
 ordered (code.Refused r) = refused (refusal r)

@@ -1,6 +1,7 @@
 // Clocks by value, the three sorts of figure, and the verdict on two lent clocks.
 ghost use mathlib.Core.Path.{_≡_};
 ghost use mathlib.Core.Bool.{cond, _&&_, not};
+ghost use Prim.Native.Nat.{_≤_};
 ghost use lib.ListN.{length};
 ghost use Rattle.paper.specs.Clock.{zero-clock};
 ghost use Rattle.paper.specs.Order.{within};
@@ -47,6 +48,21 @@ pub enum Verdict {
     Before,
     After,
     Neither,
+    Same,
+}
+
+impl Verdict {
+    // The paper's number of a verdict.
+    pub fn number(self) -> usize
+        ensures { λ r. ⌜ (r ≡ number self) × (r ≤ 4) ⌝ }
+    {
+        match self {
+            Verdict::Before => 1,
+            Verdict::After => 2,
+            Verdict::Neither => 3,
+            Verdict::Same => 4,
+        }
+    }
 }
 
 // What comparing two lent clocks answers.
@@ -81,13 +97,16 @@ fn ways(first: &[u16], second: &[u16]) -> Both
 }
 
 fn judge(w: Both) -> Verdict
-    ensures { λ r. ⌜ number r ≡ cond (w .there && not (w .back)) 1 (cond (w .back && not (w .there)) 2 3) ⌝ }
+    ensures { λ r. ⌜ number r ≡ cond (w .there && not (w .back)) 1 (cond (w .back && not (w .there)) 2 (cond (w .there && w .back) 4 3)) ⌝ }
 {
     if w.there & !w.back {
         return Verdict::Before;
     }
     if w.back & !w.there {
         return Verdict::After;
+    }
+    if w.there & w.back {
+        return Verdict::Same;
     }
     Verdict::Neither
 }

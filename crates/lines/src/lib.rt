@@ -58,7 +58,7 @@ pub fn refusal_text(r: clock::Refusal, out: &mut [u8]) -> usize
 pub fn verdict_text(v: clock::Verdict, out: &mut [u8]) -> usize
     ensures { λ r. ⌜ Printed (now (out .entry)) (verdict-line (number v)) r (now (out .exit)) ⌝ }
 {
-    let k = text::put_decimal(out, 0, programs::verdict_number(v));
+    let k = text::put_decimal(out, 0, v.number());
     text::put(out, k, b'\n')
 }
 

@@ -6,22 +6,11 @@ ghost use Prim.Native.Nat.{_+_, _*_, _^_, _≤_};
 ghost use lib.Dec.{eqb};
 ghost use lib.ListN.{length};
 ghost use Rattle.paper.specs.Event.{how-many};
-ghost use Rattle.clock.specs.Said.{number};
 ghost use Rattle.lines.specs.Text.{Appended, each};
 ghost use Rattle.lines.specs.Slots.{slot-line, fitting};
 ghost use Rattle.lines.specs.Programs.{chain-line, class-head, refused-line, offer-line};
 use crate::event;
 use crate::text;
-
-pub(crate) fn verdict_number(v: clock::Verdict) -> usize
-    ensures { λ r. ⌜ r ≡ number v ⌝ }
-{
-    match v {
-        clock::Verdict::Before => 1,
-        clock::Verdict::After => 2,
-        clock::Verdict::Neither => 3,
-    }
-}
 
 pub(crate) fn put_chain(out: &mut [u8], positions: &[u16]) -> usize
     requires { ⌜ length (now positions) ≤ 512 ⌝ }

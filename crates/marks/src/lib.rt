@@ -16,7 +16,6 @@ ghost use Rattle.marks.specs.Said.{marked};
 use clock::Ordered;
 use clock::Position;
 use clock::Refusal;
-use clock::Verdict;
 use sheet::Reading;
 
 // What marking answers: the total, and of how many lines.
@@ -39,16 +38,6 @@ fn two(lines: &[u8], k: usize) -> usize
     wide(lines[k]) + 256 * wide(lines[k + 1])
 }
 
-fn number(v: Verdict) -> usize
-    ensures { λ r. ⌜ r ≡ said.number v ⌝ }
-{
-    match v {
-        Verdict::Before => 1,
-        Verdict::After => 2,
-        Verdict::Neither => 3,
-    }
-}
-
 // Whether a verdict is the one on the clocks of two events, whose n slots each begin at n times the position.
 fn is_verdict(n: usize, clocks: &[u16], first: usize, second: usize, given: usize) -> bool
     requires { ⌜ (1 ≤ n) × (n ≤ 32) × (first < 512) × (second < 512)
@@ -59,7 +48,7 @@ fn is_verdict(n: usize, clocks: &[u16], first: usize, second: usize, given: usiz
     let b = n * second;
     match clock::order(&clocks[a..a + n], &clocks[b..b + n]) {
         Ordered::Refused(_) => false,
-        Ordered::Judged(v) => given == number(v),
+        Ordered::Judged(v) => given == v.number(),
     }
 }
 

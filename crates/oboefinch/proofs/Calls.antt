@@ -41,11 +41,12 @@ use Rattle.oboefinch.specs.Packed.{read-fields, class-fields, write-fiel
 use Rattle.oboefinch.proofs.Refusals.{Mild, capped, call-mild, then-mild, mild-small, events-mild, stamps-mild, zip-few}
 use Rattle.oboefinch.proofs.Small.{Small, outcome-small}
 
-verdict-few : (n : ℕ) (v w : Clock) → order.verdict n v w ≤ 3
+verdict-few : (n : ℕ) (v w : Clock) → order.verdict n v w ≤ 4
 unfolding order.verdict
 verdict-few n v w =
-    cond-cases (λ k. k ≤ 3) (order.below n v w) _ _ (λ q. omega arith)
-    (λ q. cond-cases (λ k. k ≤ 3) (order.below n w v) _ _ (λ p. omega arith) (λ p. omega arith))
+    cond-cases (λ k. k ≤ 4) (order.below n v w) _ _ (λ q. omega arith)
+    (λ q. cond-cases (λ k. k ≤ 4) (order.below n w v) _ _ (λ p. omega arith)
+    (λ p. cond-cases (λ k. k ≤ 4) (order.same n v w) _ _ (λ r. omega arith) (λ r. omega arith)))
 
 verdict-small : (n : ℕ) (v w : Clock) → Small (verdict-fields (order.verdict n v w))
 verdict-small n v w = record { number = omega arith; x = omega (arith, verdict-few n v w); y = omega arith; z = omega arith }

@@ -1,6 +1,6 @@
 // Four fields in one number.
 ghost use mathlib.Core.Path.{_≡_};
-ghost use Prim.Native.Nat.{_≤_, _<_};
+ghost use Prim.Native.Nat.{_<_};
 ghost use Rattle.clock.specs.Said as said;
 ghost use Rattle.oboefinch.specs.Packed.{packed, refusal-fields, verdict-fields};
 use clock::Refusal;
@@ -20,18 +20,8 @@ pub(crate) fn refusal(r: Refusal) -> u64
     fields(r.number, 0, r.position.0, 0)
 }
 
-fn verdict_number(v: Verdict) -> usize
-    ensures { λ r. ⌜ (r ≡ said.number v) × (r ≤ 3) ⌝ }
-{
-    match v {
-        Verdict::Before => 1,
-        Verdict::After => 2,
-        Verdict::Neither => 3,
-    }
-}
-
 pub(crate) fn verdict(v: Verdict) -> u64
     ensures { λ a. ⌜ a ≡ packed (verdict-fields (said.number v)) ⌝ }
 {
-    fields(0, verdict_number(v), 0, 0)
+    fields(0, v.number(), 0, 0)
 }

@@ -93,16 +93,13 @@ pub fn compare(
 fn late_number(v: Verdict, slots: usize) -> u8
     ensures { λ r. ⌜ r ≡ past-20 (number v) slots ⌝ }
 {
-    match v {
-        Verdict::Before => {
-            if slots < 512 {
-                return 21;
-            }
-            0
-        }
-        Verdict::After => 22,
-        Verdict::Neither => 22,
+    if v.number() != 1 {
+        return 22;
     }
+    if slots < 512 {
+        return 21;
+    }
+    0
 }
 
 // The chain from one event of a list to another: the positions of its sends, at the front of the output.

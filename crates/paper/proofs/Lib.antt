@@ -10,6 +10,7 @@ pub mod Causality
 pub mod LamportBelow
 pub mod MergeFirst
 pub mod Verdicts
+pub mod SameExactly
 pub mod TotalRight
 pub mod ChainRight
 pub mod Sheets

@@ -60,11 +60,11 @@ pub record Settled : Type 0 where
       ≡ (1 ∷ 0 ∷ 0 ∷ []) ++ ((0 ∷ 0 ∷ 1 ∷ []) ++ ((1 ∷ 1 ∷ 0 ∷ []) ++ ((1 ∷ 2 ∷ 0 ∷ []) ++ ((1 ∷ 3 ∷ 1 ∷ []) ++ ((1 ∷ 4 ∷ 1 ∷ []) ++ ((2 ∷ 2 ∷ 0 ∷ []) ++ ((3 ∷ 4 ∷ 1 ∷ []) ++ (9 ∷ []))))))))
   pub masks-of-A : reading (written 3 A) (lent 25 9) .1 .masks ≡ 1 ∷ 4 ∷ 0 ∷ 3 ∷ 0 ∷ 6 ∷ 0 ∷ 0 ∷ 9 ∷ []
   pub values-of-A : reading (written 3 A) (lent 25 9) .1 .values ≡ (1 ∷ 1 ∷ 1 ∷ 2 ∷ 4 ∷ 1 ∷ []) ++ (replicate 18 0 ++ (9 ∷ []))
-  -- (3) event 1 and event 3 give 3; (4) 1 and 7 give 1; (5) 7 and 0 give 2; and an event and itself 3
+  -- (3) event 1 and event 3 give 3; (4) 1 and 7 give 1; (5) 7 and 0 give 2; and an event and itself 4 (request 3)
   pub neither : comparing 3 A (lent 24 8) 1 3 .0 ≡ done 3
   pub before : comparing 3 A (lent 24 8) 1 7 .0 ≡ done 1
   pub after : comparing 3 A (lent 24 8) 7 0 .0 ≡ done 2
-  pub itself : comparing 3 A (lent 24 8) 4 4 .0 ≡ done 3
+  pub itself : comparing 3 A (lent 24 8) 4 4 .0 ≡ done 4
   -- (6) the chain from 1 to 7 is 1, 5
   pub chain-of-A : chaining 3 A (lent 24 8) 1 7 (replicate 512 9) .2 ≡ 1 ∷ 5 ∷ replicate 510 9
   -- (7) the empty list has no clocks

@@ -17,7 +17,7 @@ use Rattle.paper.specs.Event.{Event, events-of}
 use Rattle.paper.specs.Machine.{Clocked, start, clocked}
 use Rattle.paper.specs.Marking.{Line, line-count, line-at, wrong-lines, is-right, mark, marks, total, Marked, marking-refusal, marking}
 use Rattle.paper.specs.Marking.{Holds, Right-line, Number-of, none, one-more, no-more}
-use Rattle.paper.specs.Order.{below, verdict, Before}
+use Rattle.paper.specs.Order.{same, below, verdict, Before}
 use Rattle.paper.specs.Questions.{judged}
 use Rattle.paper.specs.Reading.{reading-refusal}
 use Rattle.paper.specs.Refusals.{first, of-call, _then_, Outcome, done}
@@ -30,29 +30,35 @@ use Rattle.paper.proofs.Sheets.Checks.{not-below, last, both, is-done}
 use Rattle.paper.proofs.Verdicts.{Right, verdict-right}
 
 -- Every verdict is known.
-known : (n : ℕ) (v w : Clock) → (verdict n v w ≡ 1) ⊎ ((verdict n v w ≡ 2) ⊎ (verdict n v w ≡ 3))
+abbrev Known : ℕ → Type 0
+Known x = (x ≡ 1) ⊎ ((x ≡ 2) ⊎ ((x ≡ 4) ⊎ (x ≡ 3)))
+
+known : (n : ℕ) (v w : Clock) → Known (verdict n v w)
 unfolding verdict
-known n v w = go (below n v w) (below n w v)
+known n v w = go (below n v w) (below n w v) (same n v w)
   where
-    go : (s t : Bool) → let x : ℕ = cond s 1 (cond t 2 3) in (x ≡ 1) ⊎ ((x ≡ 2) ⊎ (x ≡ 3))
-    go true t = inl refl
-    go false true = inr (inl refl)
-    go false false = inr (inr refl)
+    go : (s t u : Bool) → Known (cond s 1 (cond t 2 (cond u 4 3)))
+    go true t u = inl refl
+    go false true u = inr (inl refl)
+    go false false true = inr (inr (inl refl))
+    go false false false = inr (inr (inr refl))
 
 -- The verdict v is the one on two events exactly where what it says holds of them.
 holds :
-    (cs : List Clocked) (a b x v : ℕ) → (x ≡ 1) ⊎ ((x ≡ 2) ⊎ (x ≡ 3)) → Right x (Before cs a b) (Before cs b a) → (v ≡ x) ↔ Holds cs a b v
+    (cs : List Clocked) (a b x v : ℕ) → Known x → Right x (Before cs a b) (Before cs b a) (a ≡ b) → (v ≡ x) ↔ Holds cs a b v
 holds cs a b x v k r = (to k, from)
   where
-    to : (x ≡ 1) ⊎ ((x ≡ 2) ⊎ (x ≡ 3)) → v ≡ x → Holds cs a b v
+    to : Known x → v ≡ x → Holds cs a b v
     to (inl e) h = inl (h ∙ e, r .first .0 e)
     to (inr (inl e)) h = inr (inl (h ∙ e, r .second .0 e))
-    to (inr (inr e)) h = let z = r .neither .0 e in inr (inr (h ∙ e, z .0, z .1))
+    to (inr (inr (inl e))) h = inr (inr (inl (h ∙ e, r .equal .0 e)))
+    to (inr (inr (inr e))) h = let z = r .neither .0 e in inr (inr (inr (h ∙ e, z .0, z .1, z .2)))
 
     from : Holds cs a b v → v ≡ x
     from (inl h) = h .0 ∙ sym (r .first .1 (h .1))
     from (inr (inl h)) = h .0 ∙ sym (r .second .1 (h .1))
-    from (inr (inr h)) = h .0 ∙ sym (r .neither .1 (h .1, h .2))
+    from (inr (inr (inl h))) = h .0 ∙ sym (r .equal .1 (h .1))
+    from (inr (inr (inr h))) = h .0 ∙ sym (r .neither .1 (h .1, h .2, h .3))
 
 module _ (n : ℕ) (small : n ≤ 32) (os : List Event) where
   abbrev cs : List Clocked
@@ -183,17 +189,18 @@ module _ (b lines : List ℕ) (w : Work) (out : List ℕ) where
 pub earns-nothing :
     (cs : List Clocked) (lines out out′ : List ℕ) (m : Marked) → Rightly-marked cs lines out out′ m → (j : ℕ) → j < line-count lines
     → let l = line-at lines j in
-    (length cs ≤ l .first) ⊎ ((length cs ≤ l .second) ⊎ ((l .verdict ≢ 1) × (l .verdict ≢ 2) × (l .verdict ≢ 3))) → getD out′ j 0 ≡ 0
+    (length cs ≤ l .first) ⊎ ((length cs ≤ l .second) ⊎ ((l .verdict ≢ 1) × (l .verdict ≢ 2) × (l .verdict ≢ 3) × (l .verdict ≢ 4))) → getD out′ j 0 ≡ 0
 earns-nothing cs lines out out′ m r j h wrong = r .nothing j h .1 (λ right. not-right wrong right (right .2))
   where
     l : Line
     l = line-at lines j
 
     not-right :
-        (length cs ≤ l .first) ⊎ ((length cs ≤ l .second) ⊎ ((l .verdict ≢ 1) × (l .verdict ≢ 2) × (l .verdict ≢ 3))) → Right-line cs l
+        (length cs ≤ l .first) ⊎ ((length cs ≤ l .second) ⊎ ((l .verdict ≢ 1) × (l .verdict ≢ 2) × (l .verdict ≢ 3) × (l .verdict ≢ 4))) → Right-line cs l
         → Holds cs (l .first) (l .second) (l .verdict) → ⊥
     not-right (inl g) right holds = omega (arith, right .0)
     not-right (inr (inl g)) right holds = omega (arith, right .1)
     not-right (inr (inr g)) right (inl e) = g .0 (e .0)
     not-right (inr (inr g)) right (inr (inl e)) = g .1 (e .0)
-    not-right (inr (inr g)) right (inr (inr e)) = g .2 (e .0)
+    not-right (inr (inr g)) right (inr (inr (inl e))) = g .3 (e .0)
+    not-right (inr (inr g)) right (inr (inr (inr e))) = g .2 (e .0)

@@ -14,7 +14,7 @@ use crate::{Call, Case};
 /// A multiple of a line's size that is 0 when cut to 16 bits.
 const CUT_TO_NOTHING: usize = 65_536 * (LINE_SIZE / 2);
 
-const WRONG_VERDICTS: [u16; 4] = [0, 4, 5, 65_535];
+const WRONG_VERDICTS: [u16; 4] = [0, 5, 6, 65_535];
 
 pub fn case(random: &mut Random) -> Case {
     let lent = some_sheet(random);

@@ -94,6 +94,8 @@ fn examples_3_to_6_questions_about_a() {
     assert_eq!(verdict(7, 0), Ok(Verdict::After));
     assert_eq!(chain(PROCESSES_OF_A, list_a(), 1, 7), Ok(vec![1, 5]));
     assert_eq!(order(&[0, 0, 1], &[1, 2, 0]), Ok(Verdict::Neither));
+    assert_eq!(verdict(3, 3), Ok(Verdict::Same));
+    assert_eq!(order(&[1, 2, 0], &[1, 2, 0]), Ok(Verdict::Same));
 }
 
 #[test]

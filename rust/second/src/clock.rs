@@ -12,11 +12,16 @@ pub enum Verdict {
     FirstBelow = 1,
     SecondBelow = 2,
     Neither = 3,
+    Same = 4,
 }
 
 /// The known verdicts.
-pub const ALL_VERDICTS: [Verdict; 3] =
-    [Verdict::FirstBelow, Verdict::SecondBelow, Verdict::Neither];
+pub const ALL_VERDICTS: [Verdict; 4] = [
+    Verdict::FirstBelow,
+    Verdict::SecondBelow,
+    Verdict::Neither,
+    Verdict::Same,
+];
 
 /// "Clock V is below W when no component of V exceeds W's and the two differ".
 pub fn is_below(v: &[u16], w: &[u16]) -> bool {
@@ -24,11 +29,14 @@ pub fn is_below(v: &[u16], w: &[u16]) -> bool {
     none_exceeds && v != w
 }
 
+/// "Two equal clocks now give verdict 4".
 pub fn verdict(first: &[u16], second: &[u16]) -> Verdict {
     if is_below(first, second) {
         Verdict::FirstBelow
     } else if is_below(second, first) {
         Verdict::SecondBelow
+    } else if first == second {
+        Verdict::Same
     } else {
         Verdict::Neither
     }

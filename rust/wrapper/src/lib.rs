@@ -82,6 +82,8 @@ pub enum Verdict {
     Before,
     After,
     Neither,
+    /// Both clocks are equal: of two events of a list, both are one event.
+    Same,
 }
 
 impl Reading {

@@ -39,6 +39,7 @@ impl Answer {
             1 => Verdict::Before,
             2 => Verdict::After,
             3 => Verdict::Neither,
+            4 => Verdict::Same,
             other => panic!("the library gave {other}, which is no verdict"),
         }
     }

@@ -8,7 +8,10 @@ returns-2 : tie.Need-returns-2
 returns-2 c = simp (c .if2 .taken, c .before .before .before .if1 .left)
 
 returns-3 : tie.Need-returns-3
-returns-3 c = simp (c .if2 .left, c .before .before .before .if1 .left)
+returns-3 c = simp (c .if3 .taken, c .before .before .if2 .left, c .before .before .before .before .before .if1 .left)
+
+returns-4 : tie.Need-returns-4
+returns-4 c = simp (c .if3 .left, c .before .before .if2 .left, c .before .before .before .before .before .if1 .left)
 
 pub judge-spec : {M : Type 1} → statement M
-judge-spec = tie.close (tie.spec returns returns-2 returns-3)
+judge-spec = tie.close (tie.spec returns returns-2 returns-3 returns-4)

@@ -11,7 +11,7 @@ unfolding verdict-line text
 returns c =
     let a = c .before .before .before .before .before .before .put-decimal .ensures in
     let b = c .before .before .put .ensures in
-    printed (rw (c .before .before .before .before .before .before .before .verdict-number .ensures) at (join (a .0) b)) (omega (arith, a .1, b .place))
+    printed (rw (c .before .before .before .before .before .before .before .number .ensures .0) at (join (a .0) b)) (omega (arith, a .1, b .place))
 
 pub verdict-text-spec : {M : Type 1} → statement M
 verdict-text-spec =

@@ -61,9 +61,9 @@ fn a_missing_event_earns_nothing() {
 }
 
 #[test]
-fn an_event_is_neither_before_nor_after_itself() {
+fn an_event_is_the_same_as_itself_and_not_concurrent_with_itself() {
     let lines = [line(4, 4, 3), line(4, 4, 1), line(4, 4, 2), line(4, 4, 4)];
-    assert_eq!(marks_on_a(&lines), [1, 0, 0, 0]);
+    assert_eq!(marks_on_a(&lines), [0, 0, 0, 1]);
 }
 
 /// "A chain step leads from an event to a later event of the same process, or from a send to its receive".

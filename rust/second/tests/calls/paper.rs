@@ -89,7 +89,7 @@ fn events_of_a_are_compared() {
     assert_eq!(verdict_on_a(1, 7), Verdict::FirstBelow);
     assert_eq!(verdict_on_a(7, 0), Verdict::SecondBelow);
     for position in 0..8 {
-        assert_eq!(verdict_on_a(position, position), Verdict::Neither);
+        assert_eq!(verdict_on_a(position, position), Verdict::Same);
     }
 }
 
@@ -237,5 +237,5 @@ fn lent_clocks_are_ordered() {
     assert_eq!(order(&[1, 2], &[1, 3]), Ok(Verdict::FirstBelow));
     assert_eq!(order(&[1, 3], &[1, 2]), Ok(Verdict::SecondBelow));
     assert_eq!(order(&[0, 9], &[1, 3]), Ok(Verdict::Neither));
-    assert_eq!(order(&[4, 4], &[4, 4]), Ok(Verdict::Neither));
+    assert_eq!(order(&[4, 4], &[4, 4]), Ok(Verdict::Same));
 }
