@@ -15,12 +15,13 @@
  *   mark              0                   0                the total        lines
  *
  * read_lamport answers as read does, class_lamport as class. A verdict is 1 where the first is before the second, 2 where it is after,
- * 3 where it is neither, 4 where both clocks are equal: of two events of a list, where both are one event. The position is that of the event where an event or its stamp is refused, otherwise 0.
+ * 3 where it is neither, 4 where both clocks are equal: of two events of a list, where both are one event. The position is that of the
+ * event where an event or its stamp is refused, otherwise 0.
  *
  * Work buffers, for n processes and a list of m events (8 bytes each): clocks has at least n * m slots, masks m, values n * m, and
  * answers of class and lamports m; else the call is refused with 9. These are the named slots. A sheet is at most 40960 bytes. A chain
- * is written only where its output has at least 512 slots, a sheet only where its output has room for it, and marks only where there is
- * a slot for each line; else the call is refused with 21.
+ * is written only where its output has at least n - 1 slots, so 31 are always enough and one process needs none, a sheet only where its
+ * output has room for it, and marks only where there is a slot for each line; else the call is refused with 21.
  *
  * Buffers after a call: a refusal up to and including 9 writes nothing, nor does 30. Any other sets the named slots to 0 and leaves the
  * outputs (sheet of write, chain, marks) untouched. On success clocks holds the clocks of the accepted events one after another, n slots

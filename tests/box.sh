@@ -9,7 +9,7 @@ cd "$(dirname "$0")/.." || exit 2
 programs='class 44
 listing 63
 compare 17
-chain 17
+chain 18
 write 36
 marker 24'
 # The refusals that the entries show. 9 and 21 can't be had: the programs' own buffers are always long enough (theorem `never-short`).

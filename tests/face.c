@@ -22,7 +22,7 @@ static uint64_t packed(uint64_t number, uint64_t x, uint64_t y, uint64_t z)
 int main(int argc, char **argv)
 {
     static uint8_t sheet[40961], again[40961];
-    static uint16_t clocks[24], values[24], lamports[8], chain[512];
+    static uint16_t clocks[24], values[24], lamports[8], chain[31];
     static uint32_t masks[8];
     static uint8_t answers[8], marks[5];
     static const uint32_t want_masks[8] = {1, 4, 0, 3, 0, 6, 0, 0};
@@ -53,9 +53,11 @@ int main(int argc, char **argv)
     expect("the sheet written", 0, memcmp(sheet, again, 116) != 0);
     expect("1 and 3", packed(0, 3, 0, 0), oboefinch_compare(3, list, 64, clocks, 24, masks, 8, values, 24, 1, 3));
     expect("1 and 7", packed(0, 1, 0, 0), oboefinch_compare(3, list, 64, clocks, 24, masks, 8, values, 24, 1, 7));
-    expect("the chain's length", packed(0, 0, 0, 2), oboefinch_chain(3, list, 64, clocks, 24, masks, 8, values, 24, 1, 7, chain, 512));
+    expect("the chain's length", packed(0, 0, 0, 2), oboefinch_chain(3, list, 64, clocks, 24, masks, 8, values, 24, 1, 7, chain, 2));
     expect("the chain's first send", 1, chain[0]);
     expect("the chain's second send", 5, chain[1]);
+    expect("behind the chain", 0, chain[2]);
+    expect("a chain in 31 slots", packed(0, 0, 0, 2), oboefinch_chain(3, list, 64, clocks, 24, masks, 8, values, 24, 1, 7, chain, 31));
     memset(marks, 9, sizeof marks);
     expect("mark", packed(0, 0, 2, 4), oboefinch_mark(sheet, size, lines, 24, clocks, 24, masks, 8, values, 24, marks, 4));
     expect("the marks", 0, memcmp(marks, want_marks, sizeof marks) != 0);
@@ -67,6 +69,7 @@ int main(int argc, char **argv)
     expect("read again", packed(0, 3, 8, 6), oboefinch_read(sheet, size, clocks, 24, masks, 8, values, 24));
     expect("2 and 2", packed(0, 4, 0, 0), oboefinch_compare(3, list, 64, clocks, 24, masks, 8, values, 24, 2, 2));
     expect("order", packed(0, 1, 0, 0), oboefinch_order(clocks, 3, clocks + 21, 3));
+    expect("a chain in one slot", packed(21, 0, 0, 0), oboefinch_chain(3, list, 64, clocks, 24, masks, 8, values, 24, 1, 7, chain, 1));
     expect("a short sheet", packed(1, 0, 0, 0), oboefinch_read(sheet, 23, clocks, 24, masks, 8, values, 24));
     expect("a short buffer", packed(9, 0, 0, 0), oboefinch_read(sheet, size, clocks, 23, masks, 8, values, 24));
     expect("an empty sheet", packed(1, 0, 0, 0), oboefinch_read(NULL, 0, NULL, 0, NULL, 0, NULL, 0));

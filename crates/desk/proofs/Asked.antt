@@ -45,20 +45,20 @@ module _ (n : ℕ) (list : List ℕ) (a b : ℕ) where
   sends = chain (clocked n start (events-of list)) a b
 
   abbrev asked : Outcome ℕ × Work × List ℕ
-  asked = chaining n list ample a b (replicate 512 0)
+  asked = chaining n list ample a b (replicate 31 0)
 
   done-text : is-done (asked .0) ≡ true → text-after asked ≡ chain-line sends
   unfolding chaining written-to
   done-text d =
-      let r = chaining-refusal n list ample a b (replicate 512 0) in
-      go (eqb (r .number) 0) r (asked .1) d (lent .chained n list ample a b (replicate 512 0) .1)
+      let r = chaining-refusal n list ample a b (replicate 31 0) in
+      go (eqb (r .number) 0) r (asked .1) d (lent .chained n list ample a b (replicate 31 0) .1)
     where
       go :
           (t : Bool) (r : Refusal) (u : Work)
           → let o : Outcome ℕ = cond t (done (length sends)) (refused r) in
-          let slots = cond t (laid (length sends) sends (replicate 512 0)) (replicate 512 0) in
-          is-done o ≡ true → length slots ≡ 512 → text-after (o, u, slots) ≡ chain-line sends
-      go true r u d h = chain-after sends (replicate 512 0) (omega (arith, h, laid-enough (length sends) sends (replicate 512 0)))
+          let slots = cond t (laid (length sends) sends (replicate 31 0)) (replicate 31 0) in
+          is-done o ≡ true → length slots ≡ 31 → text-after (o, u, slots) ≡ chain-line sends
+      go true r u d h = chain-after sends (replicate 31 0) (omega (arith, h, laid-enough (length sends) sends (replicate 31 0)))
       go false r u d h = absurd (false≢true d)
 
   module _ (after : Work) (slots : List ℕ) where

@@ -1,6 +1,6 @@
 -- `never-short`: no program refuses with 9 or 21, since its buffers are long enough for every input.
--- The other checks have other numbers; check 9 never holds, for past the checks before it there are at most 32 processes and 512 events.
-use Prim.Native.Nat.{ℕ, suc, _≤_}
+-- The other checks have other numbers; 9 and the chain's 21 never hold, for past the checks before them there are at most 32 processes and 512 events.
+use Prim.Native.Nat.{ℕ, suc, _-_, _≤_}
 use native.Mathlib.Omega.{arith}
 use mathlib.Core.Bool.{Bool, true, false, cond, _||_}
 use mathlib.Core.List.{List, [], _∷_}
@@ -19,6 +19,7 @@ use Rattle.paper.specs.Reading.{wrong-count, header-checks, first-refused, begi
 use Rattle.paper.specs.Refusals.{first, Refusal, of-call, _then_, refused, outcome}
 use Rattle.paper.specs.Sheet.{processes-in, list-offset, list-size, list-in, stamps-in, pieces}
 use Rattle.paper.proofs.Laws.Tables.{cond-cases}
+use Rattle.paper.proofs.RoundTrip.{list-accepted}
 use Rattle.paper.proofs.Sheets.Checks.{last}
 use Rattle.paper.proofs.Sheets.Header.{header-says}
 use Rattle.offers.proofs.Early.{lent-512}
@@ -95,9 +96,16 @@ module _ (n : ℕ) (list : List ℕ) where
   unfolding comparing-refusal
   comparing-other a b = then-other (list-refusal n list ample) _ list-other (is-other _ (simp kept-first))
 
-  chaining-other : (a b : ℕ) → Other (chaining-refusal n list ample a b (replicate 512 0) .number)
+  -- 31 slots are room for the chain.
+  chaining-other : (a b : ℕ) → Other (chaining-refusal n list ample a b (replicate 31 0) .number)
   unfolding chaining-refusal
-  chaining-other a b = then-other (list-refusal n list ample) _ list-other (is-other _ (simp kept-first))
+  chaining-other a b =
+      then-later (list-refusal n list ample) _ list-other
+      (λ z.
+      let small : n ≤ 32 = list-accepted n list ample .0 z .0 .processes .1 in
+      let zeros : List ℕ = replicate 31 0 in
+      let roomy : ltb (length zeros) (n - 1) ≡ false = le-ltb 31 (n - 1) (omega arith) in
+      rw roomy (is-other _ (simp kept-first)))
 
 module _ (b : List ℕ) where
   abbrev scant : Bool
@@ -146,7 +154,7 @@ pub record NeverShort : Type 0 where
   pub numbered : (b : List ℕ) (r : Refusal) → reading-lamport b ample (replicate 512 0) .0 .0 ≡ refused r → Other (r .number)
   pub compared : (n : ℕ) (list : List ℕ) (a b : ℕ) (r : Refusal) → comparing n list ample a b .0 ≡ refused r → Other (r .number)
   pub chained :
-      (n : ℕ) (list : List ℕ) (a b : ℕ) (r : Refusal) → chaining n list ample a b (replicate 512 0) .0 ≡ refused r → Other (r .number)
+      (n : ℕ) (list : List ℕ) (a b : ℕ) (r : Refusal) → chaining n list ample a b (replicate 31 0) .0 ≡ refused r → Other (r .number)
   pub marked : (b lines : List ℕ) (r : Refusal) → marking b lines ample (replicate 200 0) .0 ≡ refused r → Other (r .number)
   pub written : (n : ℕ) (list : List ℕ) (r : Refusal) → write-answer n list ≡ refused r → Other (r .number)
 

@@ -37,13 +37,13 @@ listing-answer b = text-of (λ r. listing (r .processes) (r .list)) (reading b a
 unfoldable pub listing-lamport-answer : List ℕ → List ℕ
 listing-lamport-answer b = text-of (λ r. lamport-listing (r .processes) (r .list)) (reading-lamport b ample (replicate 512 0) .0 .0)
 
--- The verdict on two events of a list, and the chain from one to the other.
+-- The verdict on two events of a list, and the chain from one to the other: 31 slots are room for it with 32 processes.
 unfoldable pub verdict-said : ℕ → List ℕ → ℕ → ℕ → List ℕ
 verdict-said n list a b = text-of verdict-line (comparing n list ample a b .0)
 
 unfoldable pub chain-said : ℕ → List ℕ → ℕ → ℕ → List ℕ
 chain-said n list a b =
-    text-of (λ k. chain-line (chain (clocked n start (events-of list)) a b)) (chaining n list ample a b (replicate 512 0) .0)
+    text-of (λ k. chain-line (chain (clocked n start (events-of list)) a b)) (chaining n list ample a b (replicate 31 0) .0)
 
 -- `compare` and `chain`: what refuses the sheet refuses the question.
 unfoldable pub compare-answer : List ℕ → ℕ → ℕ → List ℕ

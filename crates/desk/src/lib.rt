@@ -112,7 +112,7 @@ fn chain_said(
     let mut clocks = [0u16; 16384];
     let mut masks = [0u32; 512];
     let mut values = [0u16; 16384];
-    let mut chain = [0u16; 512];
+    let mut chain = [0u16; 31];
     let c = order::chain(
         n,
         list,

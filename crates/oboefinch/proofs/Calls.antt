@@ -114,7 +114,9 @@ module _ (n : ℕ) (list : List ℕ) (w : Work) where
   chaining-small a b out =
       outcome-small chain-fields (chaining-refusal n list w a b out) _
       (mild-small _ (then-mild (list-refusal n list w) _ list-mild (λ h. call-mild _ (simp capped))))
-      (λ h. record { number = omega arith; x = omega arith; y = omega arith; z = omega (arith, chain-few n list w a b out h .0) })
+      (λ h.
+      let (small, few, _) = chain-few n list w a b out h in
+      record { number = omega arith; x = omega arith; y = omega arith; z = omega arith })
 
   -- A written sheet has a header of 24 bytes, the list and the stamps.
   written-long : length (written n list) ≡ 24 + (length list + length (stamps-part n list))

@@ -13,9 +13,8 @@ use Rattle.paper.specs.Clock.{part}
 use Rattle.paper.specs.Event.{Event, event-at, first-events, events-of, how-many}
 use Rattle.paper.specs.Machine.{State, Clocked, start, answer, offered, answers, clocked, event-clock}
 use Rattle.paper.specs.Order.{nothing, event-of, clock-of}
-use Rattle.paper.proofs.Laws.Judged.{judged}
-use Rattle.paper.proofs.Laws.Places.{all}
-use Rattle.paper.proofs.Laws.Runs.{along, clocked-all, length-events}
+use Rattle.paper.proofs.ChainRoom.{process-below}
+use Rattle.paper.proofs.Laws.Runs.{clocked-all, length-events}
 use Rattle.paper.proofs.Lent.Stamps.{slots-fit}
 use Rattle.paper.proofs.Sheets.Layout.{Given}
 use Rattle.paper.proofs.Sizes.{sized}
@@ -41,13 +40,6 @@ event-there (suc m) list d a h = go (eq-or-lt-of-le (le-of-suc-le-suc h)) (event
         → getD (first-events m list ++ (event-at list (8 * m) ∷ [])) a d ≡ event-at list (8 * a)
     go (inl e) f = rw e (getD-at (first-events m list) (event-at list (8 * m)) [] d m (length-events m list))
     go (inr l) f = List·getD-append (first-events m list) _ d a (omega (arith, length-events m list)) ∙ f l
-
--- The process of an accepted event is below n.
-process-below : (n : ℕ) (os : List Event) (a : ℕ) → a < length (clocked n start os) → event-of (clocked n start os) a .process < n
-process-below n os =
-    along n (λ s es. (a : ℕ) → a < length es → event-of es a .process < n)
-    (λ s es e z p. all es (record { event = e; clock = event-clock s e }) (λ a y. y .event .process < n) p (judged n s e z .shaped .process))
-    os start [] (λ a h. absurd (omega arith))
 
 slot-there :
     (n : ℕ) (cs : List Clocked) → ((a : ℕ) → a < length cs → n ≤ length (clock-of cs a)) → (a k : ℕ) → a < length cs → k < n

@@ -38,8 +38,8 @@ question r t k = go (eqb (r .number) 0) t refl
     go true false e = (λ h. absurd (h refl), λ h. refl)
     go false t e = (λ h. refl, λ h. absurd (eqb-false (r .number) 0 e h))
 
-late-number : (v slots : ℕ) → past-20 v slots ≢ 0 → 9 < past-20 v slots
-late-number v slots = go (not (eqb v 1)) (ltb slots 512)
+late-number : (v room slots : ℕ) → past-20 v room slots ≢ 0 → 9 < past-20 v room slots
+late-number v room slots = go (not (eqb v 1)) (ltb slots room)
   where
     go : (x y : Bool) → first x 22 (first y 21 0) ≢ 0 → 9 < first x 22 (first y 21 0)
     go true y h = omega arith
@@ -64,7 +64,7 @@ module _ (n : ℕ) (list : List ℕ) (w : Work) (a b v : ℕ) (w′ : Work) (h :
 
 module _ (n : ℕ) (list : List ℕ) (w : Work) (a b : ℕ) (out : List ℕ) where
   abbrev later : ℕ
-  later = past-20 (judged n (of-list n list) a b) (length out)
+  later = past-20 (judged n (of-list n list) a b) (n - 1) (length out)
 
   still : comparing-refusal n list w a b .number ≢ 0 → chaining-refusal n list w a b out ≡ comparing-refusal n list w a b
   unfolding comparing-refusal chaining-refusal
@@ -83,25 +83,32 @@ module _ (n : ℕ) (list : List ℕ) (w : Work) (a b : ℕ) (out : List ℕ) whe
       rw (still z, ne-eqb (r .number) 0 z) (λ i. (refused (q i), x i, out))
 
   module _ (v : ℕ) (w′ : Work) (h : (done v, w′) ≡ comparing n list w a b) where
-    is : chaining-refusal n list w a b out ≡ of-call (past-20 v (length out))
-    is = let (z, e) = answered n list w a b v w′ h in goes z ∙ ap (λ (x : ℕ). of-call (past-20 x (length out))) e
+    is : chaining-refusal n list w a b out ≡ of-call (past-20 v (n - 1) (length out))
+    is = let (z, e) = answered n list w a b v w′ h in goes z ∙ ap (λ (x : ℕ). of-call (past-20 x (n - 1) (length out))) e
+
+    said : (m k : ℕ) → m ≡ n - 1 → k ≡ past-20 v m (length out) → k ≡ past-20 v (n - 1) (length out)
+    said m k room t = t ∙ ap (λ (x : ℕ). past-20 v x (length out)) room
 
     -- 22 and 21.
     pub chain-late :
-        (k : ℕ) (given : Refusal) (w″ : Work) → k ≡ past-20 v (length out) → k ≢ 0 → given ≡ of-call k → w″ ≡ late n (how-many list) w′
-        → (refused given, w″, out) ≡ chaining n list w a b out
+        (m k : ℕ) → m ≡ n - 1 → k ≡ past-20 v m (length out) → k ≢ 0 → (given : Refusal) (w″ : Work) → given ≡ of-call k
+        → w″ ≡ late n (how-many list) w′ → (refused given, w″, out) ≡ chaining n list w a b out
     unfolding chaining written-to
-    chain-late k given w″ e z g q =
-        let x = q ∙ late-cleared n list w w′ (compare-passed n list w a b v w′ h) k (rw e (late-number v (length out) (rw e at z))) in
+    chain-late m k room t z given w″ g q =
+        let e = said m k room t in
+        let x = q ∙ late-cleared n list w w′ (compare-passed n list w a b v w′ h) k (rw e (late-number v (n - 1) (length out) (rw e at z))) in
         rw (is, ← e, ne-eqb k 0 z) (λ i. (refused (g i), x i, out))
 
-    module _ (k : ℕ) (e : k ≡ past-20 v (length out)) (z : k ≡ 0) where
-      ready : (v ≡ 1) × (512 ≤ length out)
-      ready =
-          in-order (not (eqb v 1)) 22 (first (ltb (length out) 512) 21 0) (omega arith) (equal v 1)
-          (last (ltb (length out) 512) 21 (omega arith) (not-below (length out) 512)) .0 (sym e ∙ z)
+    module _ (m k : ℕ) (room : m ≡ n - 1) (t : k ≡ past-20 v m (length out)) (z : k ≡ 0) where
+      e : k ≡ past-20 v (n - 1) (length out)
+      e = said m k room t
 
-      pub chain-reaches : Stands n list (w′ .clocks) × Reaches n list a b × (512 ≤ length out)
+      ready : (v ≡ 1) × (n - 1 ≤ length out)
+      ready =
+          in-order (not (eqb v 1)) 22 (first (ltb (length out) (n - 1)) 21 0) (omega arith) (equal v 1)
+          (last (ltb (length out) (n - 1)) 21 (omega arith) (not-below (length out) (n - 1))) .0 (sym e ∙ z)
+
+      pub chain-reaches : Stands n list (w′ .clocks) × Reaches n list a b × (n - 1 ≤ length out)
       chain-reaches =
           let s = passed-stands n list w w′ (compare-passed n list w a b v w′ h) in
           let (ha, hb) = checked n list w a b v w′ h .1 in
@@ -115,8 +122,8 @@ module _ (n : ℕ) (list : List ℕ) (w : Work) (a b : ℕ) (out : List ℕ) whe
           → (done l, w′, out′) ≡ chaining n list w a b out
       unfolding chaining written-to
       chain-done l out′ p q =
-          let (s, r, room) = chain-reaches in
+          let (s, r, long) = chain-reaches in
           let xs = sends n list a b in
-          let x : out′ ≡ laid (length xs) xs out = q ∙ laid-front xs out (omega (arith, few n list (w′ .clocks) s a b r (length xs) refl)) in
+          let x : out′ ≡ laid (length xs) xs out = q ∙ laid-front xs out (omega (arith, few n list (w′ .clocks) s a b r)) in
           let y = compare-passed n list w a b v w′ h .is in
           rw (is, ← e, z, after-done 0 n (how-many list) (of-list n list) w refl) (λ i. (done (p i), y i, x i))

@@ -19,6 +19,7 @@ use Rattle.paper.specs.Order.{event-of, clock-of}
 use Rattle.paper.proofs.Causality.Along.{kept}
 use Rattle.paper.proofs.Causality.Told.{Told}
 use Rattle.paper.proofs.ChainRight.{Right, Crossed, chain-onward}
+use Rattle.paper.proofs.ChainRoom.{room-onward}
 use Rattle.paper.proofs.Laws.Sends.{crossing, sender-inside}
 use Rattle.paper.proofs.Laws.Stores.{stored}
 use Rattle.paper.proofs.Laws.Tests.{and-both, and-true}
@@ -53,8 +54,8 @@ module _ (n : ℕ) (list clocks : List ℕ) (s : Stands n list clocks) where
         let none : chain es a b ≡ [] = right .same (process b (r .to) ∙ e ∙ sym (process a (r .from))) in
         (rw none, rw none)
 
-    pub few : (k : ℕ) → k ≡ length (chain es a b) → k < 512
-    few k e = omega (arith, right .few, r .to, s .brief)
+    pub few : length (chain es a b) < n
+    few = room-onward n (s .few) (events-of list) a b (omega (arith, s .all, r .to)) (r .leads)
 
     -- Component p of the event at c, where p is a's process.
     slot : (p c : ℕ) → p ≡ process-at list a → c < how-many list → getD clocks (n * c + p) 0 ≡ part (clock-of es c) (event-of es a .process)
@@ -153,6 +154,10 @@ module _ (n : ℕ) (list clocks : List ℕ) (s : Stands n list clocks) where
 
           pub onward : Reaches n list a d
           onward = record { from = r .from; to = sent .inside; leads = rw sender-is at (crossed .onward) }
+
+          -- There is a slot for it.
+          pub fits : (k : ℕ) → k ≡ length (chain es a d) → (k + 1 < n) × (n ≤ 32)
+          fits k h = (omega (arith, few, ap length (rw sender-is at (crossed .chain-is)), length-append (chain es a d) (d ∷ [])), s .few)
 
           pub turn :
               (old out : List ℕ) (k : ℕ) → k ≡ length (chain es a d) → out ≡ sets old 0 (chain es a d)

@@ -60,6 +60,6 @@ pub record Sent (list : List ℕ) (message s : ℕ) : Type 0 where
   pub kind : byte list (8 * s) ≡ 1
   pub number : two list (8 * s + 4) ≡ message
 
--- 22 of a verdict, then 21 of so many slots, or 0.
-abbrev pub past-20 : ℕ → ℕ → ℕ
-past-20 verdict slots = first (not (eqb verdict 1)) 22 (first (ltb slots 512) 21 0)
+-- 22 of a verdict, then 21 of fewer slots than the room for a chain, or 0.
+abbrev pub past-20 : ℕ → ℕ → ℕ → ℕ
+past-20 verdict room slots = first (not (eqb verdict 1)) 22 (first (ltb slots room) 21 0)

@@ -2,7 +2,7 @@
 mod path;
 
 ghost use mathlib.Core.Path.{_≡_};
-ghost use Prim.Native.Nat.{_+_, _*_, _≤_, _<_};
+ghost use Prim.Native.Nat.{_+_, _-_, _*_, _≤_, _<_};
 ghost use lib.ListN.{length};
 ghost use Rattle.paper.specs.Order.{verdict};
 ghost use Rattle.paper.specs.Questions.{comparing, chaining};
@@ -89,14 +89,24 @@ pub fn compare(
     }
 }
 
-// 22 where the first is not before the second, 21 where the output has fewer than 512 slots, or 0.
-fn late_number(v: Verdict, slots: usize) -> u8
-    ensures { λ r. ⌜ r ≡ past-20 (number v) slots ⌝ }
+// How many messages a chain between n processes has at most: with one process none.
+fn room(n: usize) -> usize
+    ensures { λ r. ⌜ r ≡ n - 1 ⌝ }
+{
+    if n < 2 {
+        return 0;
+    }
+    n - 1
+}
+
+// 22 where the first is not before the second, 21 where the output has fewer slots than that room, or 0.
+fn late_number(v: Verdict, room: usize, slots: usize) -> u8
+    ensures { λ r. ⌜ r ≡ past-20 (number v) room slots ⌝ }
 {
     if v.number() != 1 {
         return 22;
     }
-    if slots < 512 {
+    if slots < room {
         return 21;
     }
     0
@@ -120,7 +130,7 @@ pub fn chain(
     match asked {
         Compared::Refused(r) => Chained::Refused(r),
         Compared::Judged(v) => {
-            let late = late_number(v, out.len());
+            let late = late_number(v, room(n), out.len());
             if late != 0 {
                 return Chained::Refused(refuse(late, n, list.len() / 8, clocks, masks, values));
             }

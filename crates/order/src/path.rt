@@ -1,7 +1,7 @@
 // The messages that lead from one event to another: the walk back from the later one, by recursion on its position, which falls.
 ghost use mathlib.Core.Logic.{_≢_};
 ghost use mathlib.Core.Path.{_≡_};
-ghost use Prim.Native.Nat.{ℕ, _+_, _*_, _≤_, _<_};
+ghost use Prim.Native.Nat.{ℕ, _+_, _-_, _*_, _≤_, _<_};
 ghost use lib.ListN.{length};
 ghost use lib.Seq.{sets};
 ghost use Rattle.paper.specs.Bytes.{two};
@@ -96,7 +96,7 @@ pub(crate) fn walk(
     second: Position,
     out: &mut [u16],
 ) -> usize
-    requires { ⌜ Stands n (now list) (now clocks) × Reaches n (now list) (first .0) (second .0) × (512 ≤ length (now out)) ⌝ }
+    requires { ⌜ Stands n (now list) (now clocks) × Reaches n (now list) (first .0) (second .0) × (n - 1 ≤ length (now out)) ⌝ }
     ensures { λ r. ⌜ (r ≡ length (sends n (now (list .entry)) (first .0) (second .0)))
         × (now (out .exit) ≡ sets (now (out .entry)) 0 (sends n (now (list .entry)) (first .0) (second .0))) ⌝ }
 {

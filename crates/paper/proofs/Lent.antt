@@ -19,11 +19,11 @@ use Rattle.paper.specs.Event.{Event, how-many, events-of}
 use Rattle.paper.specs.Machine.{start, answers, clocked}
 use Rattle.paper.specs.Marking.{line-count, wrong-lines, mark, marks, marking-refusal, marking}
 use Rattle.paper.specs.Questions.{list-refusal, list-work, writing-refusal, writing, comparing-refusal, comparing}
-use Rattle.paper.specs.Questions.{no-such, judged, chaining-refusal, chaining}
+use Rattle.paper.specs.Questions.{no-such, judged, chain-slots, chaining-refusal, chaining}
 use Rattle.paper.specs.Reading.{header-checks, reading-refusal, reading}
 use Rattle.paper.specs.Refusals.{first, Refusal, of-call, _then_}
 use Rattle.paper.specs.Sheet.{processes-in, list-offset, list-size, list-in, written}
-use Rattle.paper.proofs.ChainRight.{chain-right}
+use Rattle.paper.proofs.ChainRoom.{chain-room}
 use Rattle.paper.proofs.Laws.Append.{length-answers}
 use Rattle.paper.proofs.Laws.Masks.{length-upto}
 use Rattle.paper.proofs.Laws.Runs.{clocked-few, clocked-all, length-events}
@@ -158,10 +158,10 @@ module _ (n : ℕ) (list : List ℕ) (w : Work) where
   unfolding comparing comparing-refusal
   comparing-lent a b = questions-lent _
 
-  -- The chain has at most 511 positions, and the output has at least 512 slots.
+  -- The chain has at most n - 1 positions, and the output has room for so many.
   pub chain-few :
       (a b : ℕ) (out : List ℕ) → chaining-refusal n list w a b out .number ≡ 0
-      → (length (chain (clocked n start (events-of list)) a b) ≤ 511) × (512 ≤ length out)
+      → (n ≤ most-processes) × (length (chain (clocked n start (events-of list)) a b) ≤ chain-slots n) × (chain-slots n ≤ length out)
   unfolding chaining-refusal
   chain-few a b out h =
       let os = events-of list in
@@ -171,11 +171,11 @@ module _ (n : ℕ) (list : List ℕ) (w : Work) where
       both (list-refusal n list w) _ (list-accepted n list w)
       (in-order (no-such list a b) 20 _ (omega arith) (neither (not (ltb a m)) (not (ltb b m)) (below a m) (below b m))
       (in-order (not (eqb (judged n cs a b) 1)) 22 _ (omega arith) (equal (judged n cs a b) 1)
-      (last (ltb (length out) 512) 21 (omega arith) (not-below (length out) 512)))) .0 h in
+      (last (ltb (length out) (chain-slots n)) 21 (omega arith) (not-below (length out) (chain-slots n))))) .0 h in
       let (events, few, size) = given .whole-records in
       let all : length cs ≡ m = clocked-all n os start (given .accepted) ∙ length-events m list in
       let before = verdict-right n (given .processes .1) os a b (omega arith) (omega arith) .first .0 verdict in
-      (omega (arith, chain-right n (given .processes .1) os a b before .few), long)
+      (given .processes .1, omega (arith, chain-room n (given .processes .1) os a b before), long)
 
   chaining-lent : (a b : ℕ) (out : List ℕ) → SameLengths (chaining n list w a b out .1) w × (length (chaining n list w a b out .2) ≡ length out)
   unfolding chaining written-to chaining-refusal

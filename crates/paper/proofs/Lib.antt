@@ -13,6 +13,7 @@ pub mod Verdicts
 pub mod SameExactly
 pub mod TotalRight
 pub mod ChainRight
+pub mod ChainRoom
 pub mod Sheets
 pub mod ReadExactly
 pub mod RoundTrip

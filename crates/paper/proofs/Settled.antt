@@ -1,4 +1,5 @@
--- The settled examples (1) to (12) of the paper, as one statement over their set, and sheet A entire, with its Lamport numbers: all by computation.
+-- The settled examples (1) to (12) of the paper, as one statement over their set, the chain's room, and sheet A entire, with its Lamport numbers: all by
+-- computation.
 use Prim.Native.Nat.{ℕ}
 use mathlib.Core.Path.{_≡_, refl}
 use mathlib.Core.List.{List, [], _∷_, _++_, flatMap, flatten, zipWith}
@@ -66,7 +67,12 @@ pub record Settled : Type 0 where
   pub after : comparing 3 A (lent 24 8) 7 0 .0 ≡ done 2
   pub itself : comparing 3 A (lent 24 8) 4 4 .0 ≡ done 4
   -- (6) the chain from 1 to 7 is 1, 5
-  pub chain-of-A : chaining 3 A (lent 24 8) 1 7 (replicate 512 9) .2 ≡ 1 ∷ 5 ∷ replicate 510 9
+  pub chain-of-A : chaining 3 A (lent 24 8) 1 7 (9 ∷ 9 ∷ 9 ∷ []) .2 ≡ 1 ∷ 5 ∷ 9 ∷ []
+  -- its room (02, 6): two slots for three processes, one is too few; 22 comes before 21; with one process no slot is needed
+  pub room-of-A : chaining 3 A (lent 24 8) 1 7 (9 ∷ 9 ∷ []) .2 ≡ 1 ∷ 5 ∷ []
+  pub scant-for-A : chaining 3 A (lent 25 9) 1 7 (9 ∷ []) ≡ (refused (of-call 21), cleared 24 8, 9 ∷ [])
+  pub not-before-first : chaining 3 A (lent 24 8) 7 0 [] .0 ≡ refused (of-call 22)
+  pub no-room-for-one : chaining 1 (event-bytes 0 0 0 0 ++ event-bytes 0 0 0 0) (lent 2 2) 0 1 [] .0 ≡ done 0
   -- (7) the empty list has no clocks
   pub empty : class 3 [] (lent 0 0) [] ≡ (done (record { accepted = 0; carried = 0 }), lent 0 0, [])
   -- (8) messages 1, 2 sent from 0 to 1, then 2 received first: 16
@@ -114,6 +120,10 @@ settled =
       after = refl;
       itself = refl;
       chain-of-A = refl;
+      room-of-A = refl;
+      scant-for-A = refl;
+      not-before-first = refl;
+      no-room-for-one = refl;
       empty = refl;
       overtaken = refl;
       overtaken-at = refl;

@@ -1,16 +1,16 @@
 //! The calls on lent buffers.
 
 use crate::clock::{is_process_count, verdict, Verdict};
-use crate::event::{MOST_EVENTS, MOST_LIST_BYTES, RECORD_SIZE};
+use crate::event::{MOST_LIST_BYTES, RECORD_SIZE};
 use crate::judge::{carried_values, each_offer, only_accepted, whole_list};
 use crate::machine::Accepted;
 use crate::marking::{lines_of, marks_of, total};
 use crate::sheet::{compose, judge_parts, stamp_bytes, Header};
 use crate::{questions, Check, Refusal};
 
-/// "fewer than 512 slots for the chain", whatever the process count.
-pub fn room_for_chain(_n: usize) -> usize {
-    MOST_EVENTS
+/// "21 for the chain now means fewer than n minus 1 slots; with one process no slot is needed."
+pub fn room_for_chain(n: usize) -> usize {
+    n - 1
 }
 
 /// The work buffers that every call but `order` is lent.
@@ -181,7 +181,8 @@ pub fn compare(
     Ok(verdict)
 }
 
-/// Checks 4, 8, 9, events in order, then 20, 22, 21; gives the chain's length.
+/// Checks 4, 8, 9, events in order, then 20, 22, 21; gives the chain's length. "21 for the chain now means fewer than n minus 1 slots; with one process no
+/// slot is needed" (02, request 6).
 pub fn chain(
     n: usize,
     list: &[u8],

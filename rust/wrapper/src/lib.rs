@@ -231,7 +231,7 @@ pub fn chain(
     second: usize,
 ) -> Result<Vec<u16>, Refusal> {
     let mut work = Work::largest();
-    let mut sends = vec![0; MOST_EVENTS];
+    let mut sends = vec![0; MOST_PROCESSES - 1];
     let packed = raw::chain(
         processes,
         list,

@@ -24,17 +24,17 @@ judged c = ap (λ r. (compared r, slots (c .before .before .before .before .befo
 
 returns : tie.Need-returns
 returns c = let r = c .before .before .before .before .before .before .refuse .ensures in
-    chain-late _ _ _ _ _ _ _ _ (judged (c .before .before .before .before .before .before .before .before .before .before .before .before)) _ _ _ (c .before .before .before .before .before .before .before .before .before .before .before .late-number .ensures) (c .before .before .before .before .before .before .before .before .before .before .if1 .taken) (r .0) (r .1)
+    chain-late _ _ _ _ _ _ _ _ (judged (c .before .before .before .before .before .before .before .before .before .before .before .before .before)) _ _ (c .before .before .before .before .before .before .before .before .before .before .before .before .room .ensures) (c .before .before .before .before .before .before .before .before .before .before .before .late-number .ensures) (c .before .before .before .before .before .before .before .before .before .before .if1 .taken) _ _ (r .0) (r .1)
 
 walk-requires : tie.Need-walk-requires
-walk-requires c κs = chain-reaches _ _ _ _ _ (now (c .before .before .before .before .before .before .before .before .before .before .before .before .before .before .before .before .before .before .before .before .before .before .args .out)) _ _ (judged (c .before .before .before .before)) _ (c .before .before .before .late-number .ensures) (c .before .before .if1 .left)
+walk-requires c κs = chain-reaches _ _ _ _ _ (now (c .before .before .before .before .before .before .before .before .before .before .before .before .before .before .before .before .before .before .before .before .before .before .before .args .out)) _ _ (judged (c .before .before .before .before .before)) _ _ (c .before .before .before .before .room .ensures) (c .before .before .before .late-number .ensures) (c .before .before .if1 .left)
 
 returns-2 : tie.Need-returns-2
 returns-2 c = chain-refused _ _ _ _ _ _ _ _ (ap (λ r. (compared r, slots (c .before .before .before .before .before .before .before .before .before))) (sym (c .before .asked .given .1)) ∙ c .before .before .before .before .before .before .before .before .before .compare .ensures)
 
 returns-3 : tie.Need-returns-3
 returns-3 c = let w = c .before .before .walk .ensures in
-    chain-done _ _ _ _ _ _ _ _ (judged (c .before .before .before .before .before .before .before)) _ (c .before .before .before .before .before .before .late-number .ensures) (c .before .before .before .before .before .if1 .left) _ _ (w .0) (w .1)
+    chain-done _ _ _ _ _ _ _ _ (judged (c .before .before .before .before .before .before .before .before)) _ _ (c .before .before .before .before .before .before .before .room .ensures) (c .before .before .before .before .before .before .late-number .ensures) (c .before .before .before .before .before .if1 .left) _ _ (w .0) (w .1)
 
 pub chain-spec : {M : Type 1} → statement M
 chain-spec =
@@ -43,6 +43,7 @@ chain-spec =
     (λ c κs. search needs)
     (λ c. search needs)
     (λ c. search needs)
+    (λ c κs. search needs)
     (λ c κs. search needs)
     (λ c κs. search needs)
     (λ c. search needs)

@@ -36,7 +36,7 @@ fn verdict_on_a(first: usize, second: usize) -> Verdict {
 }
 
 fn chain_of(n: usize, list: &[u8], first: usize, second: usize) -> Vec<u16> {
-    let mut slots = vec![0; 512];
+    let mut slots = vec![0; n - 1];
     let length = chain(n, list, Desk::largest().lend(), first, second, &mut slots).unwrap();
     slots.truncate(length);
     slots

@@ -252,10 +252,19 @@ fn number_21_outputs() {
     assert_eq!(refusal, Err(Check::OutputLength.of_no_event()));
     assert_eq!(sheet, [PRIOR; 115]);
     assert_eq!(desk, Desk::largest().cleared(3, 8));
-    let mut slots = [u16::from(PRIOR); 511];
-    let refusal = chain(3, list_a(), desk.lend(), 1, 7, &mut slots);
+    let mut slots = [u16::from(PRIOR); 3];
+    let refusal = chain(3, list_a(), desk.lend(), 1, 7, &mut slots[..1]);
     assert_eq!(refusal, Err(Check::OutputLength.of_no_event()));
-    assert_eq!(slots, [u16::from(PRIOR); 511]);
+    assert_eq!(slots, [u16::from(PRIOR); 3]);
+    assert_eq!(chain(3, list_a(), desk.lend(), 1, 7, &mut slots), Ok(2));
+    assert_eq!(slots, [1, 5, u16::from(PRIOR)]);
+}
+
+#[test]
+fn with_one_process_a_chain_needs_no_slot() {
+    let alone = list_of(&[Event::internal(0); 2]);
+    let length = chain(1, &alone, Desk::largest().lend(), 0, 1, &mut []);
+    assert_eq!(length, Ok(0));
 }
 
 #[test]
@@ -293,7 +302,7 @@ fn answers_are_packed_as_the_c_calls_give_them() {
     let classed = packed::class(3, list_a(), desk.lend(), &mut [0; 8]);
     assert_eq!(classed, 65_536 * 8 + 4_294_967_296 * 6);
     assert_eq!(packed::compare(3, list_a(), desk.lend(), 7, 0), 512);
-    let chained = packed::chain(3, list_a(), desk.lend(), 1, 7, &mut [0; 512]);
+    let chained = packed::chain(3, list_a(), desk.lend(), 1, 7, &mut [0; 2]);
     assert_eq!(chained, 4_294_967_296 * 2);
     assert_eq!(packed::order(&[1], &[2]), 256);
 }
