@@ -23,7 +23,7 @@ use Rattle.paper.proofs.Sheets.Checks.{is-done, room}
 use Rattle.paper.proofs.Sheets.Layout.{written-good}
 use Rattle.offers.proofs.Early.{count-fits, list-fits}
 use Rattle.course.proofs.Passed.{is-refused}
-use Rattle.sheet.proofs.Stored.{laid-there}
+use Rattle.writer.proofs.Stored.{laid-there}
 use Rattle.lines.specs.Text.{Printed}
 use Rattle.desk.specs.Answers.{ample, write-refusal, write-answer}
 use Rattle.desk.specs.Said.{Stands}

@@ -8,7 +8,7 @@ use marks::Marked;
 use order::Chained;
 use order::Compared;
 use sheet::Reading;
-use sheet::Wrote;
+use writer::Wrote;
 
 // The bytes of a page, on which each answer is written: half a million hold every text.
 pub const PAGE: usize = 500000;
@@ -197,7 +197,7 @@ pub fn write_answer(n: usize, list: &[u8], out: &mut [u8; PAGE]) -> Written
     let mut clocks = [0u16; 16384];
     let mut masks = [0u32; 512];
     let mut values = [0u16; 16384];
-    let w = sheet::write(n, list, &mut clocks, &mut masks, &mut values, out);
+    let w = writer::write(n, list, &mut clocks, &mut masks, &mut values, out);
     match w {
         Wrote::Refused(r) => Written::Line(lines::refusal_text(r, out)),
         Wrote::Done(_, bytes) => Written::Sheet(bytes),

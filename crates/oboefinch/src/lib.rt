@@ -16,7 +16,7 @@ use marks::Marked;
 use order::Chained;
 use order::Compared;
 use sheet::Reading;
-use sheet::Wrote;
+use writer::Wrote;
 
 // Reading a sheet.
 #[no_mangle]
@@ -110,7 +110,7 @@ pub extern "C" fn oboefinch_write(
         ≡ with-output write-fields
         (writing n (now (list .entry)) (work (now (clocks .entry)) (now (masks .entry)) (now (values .entry))) (now (sheet .entry))) ⌝ }
 {
-    match sheet::write(n, list, clocks, masks, values, sheet) {
+    match writer::write(n, list, clocks, masks, values, sheet) {
         Wrote::Refused(r) => pack::refusal(r),
         Wrote::Done(events, bytes) => pack::fields(0, 0, events, bytes),
     }

@@ -1,6 +1,6 @@
 -- Where the work buffers hold the stamps of an accepted list, the pieces by the slots are the paper's pieces, and the slots are all there.
 use Prim.Native.Nat.{ℕ, zero, suc, _+_, _*_, _≤_, _<_}
-use mathlib.Core.List.{List, [], _∷_, _++_, append-assoc, flatMap, flatten, map, zipWith}
+use mathlib.Core.List.{List, [], _∷_, _++_, append-assoc, flatMap, map, zipWith}
 use mathlib.Core.Logic.{_⊎_, inl, inr}
 use mathlib.Core.Path.{_≡_, refl, sym, ap, ap₂, _∙_}
 use native.Mathlib.Nat.{eq-or-lt-of-le, le-of-suc-le-suc}
@@ -10,17 +10,15 @@ use lib.ListN.{length, getD, take, drop, replicate, length-append, length-take, 
 use lib.Seq.{take-append-le, drop-append-le, take-all, getD-at}
 use borrow.Author.Tests.{eq-eqb}
 use Rattle.paper.specs.Buffers.{Work, laid, mask-slots, value-slots, all-ones, values-begin, filled}
-use Rattle.paper.specs.Bytes.{two-bytes, four-bytes, text}
 use Rattle.paper.specs.Clock.{Clock}
 use Rattle.paper.specs.Event.{Event, event-at, how-many, first-events, events-of}
 use Rattle.paper.specs.Machine.{State, Clocked, start, answer, offered, answers, clocked}
 use Rattle.paper.specs.Order.{nothing}
-use Rattle.paper.specs.Sheet.{piece, pieces, stamps-part, header, written}
+use Rattle.paper.specs.Sheet.{piece, pieces}
 use Rattle.paper.specs.Stamp.{Stamp, no-stamp, never-sent, previous, stamps, stamps-after}
 use Rattle.paper.proofs.Laws.Runs.{length-events}
 use Rattle.paper.proofs.Ones.{each-stamp, values-stand}
-use Rattle.sheet.specs.Slots.{slot-stamp, kind-piece, kind-at, pieces-from, slot-pieces, slot-size, slot-written, Slots}
-use Rattle.sheet.proofs.Slots.{size-is}
+use Rattle.sheet.specs.Slots.{slot-stamp, kind-piece, kind-at, pieces-from, slot-pieces, Slots}
 
 -- The event at i of a list is the one whose record begins at byte 8 * i.
 event-there : (list : List ℕ) (k i : ℕ) → i < k → getD (first-events k list) i (nothing .event) ≡ event-at list (8 * i)
@@ -169,18 +167,3 @@ module _ (n : ℕ) (list : List ℕ) (ok : answers n start (events-of list) ≡ 
     pub pieces-there : slot-pieces list (full .masks) (full .values) ≡ pieces cs
     unfolding filled laid
     pieces-there = rw (append-assoc (mask-slots ts), append-assoc (value-slots ts)) (behind-pieces _ _)
-
-    pub written-there : slot-written n list (full .masks) (full .values) ≡ written n list
-    unfolding written stamps-part
-    written-there = rw pieces-there
-
-    -- What check 21 compares with the length of the output.
-    pub size-there : 24 + length list + slot-size list (full .masks) ≡ length (written n list)
-    unfolding written stamps-part header text two-bytes four-bytes
-    size-there =
-        omega (
-          arith,
-          size-is list (full .masks) (full .values) slots-there,
-          ap (λ (ps : List (List ℕ)). length (flatten ps)) pieces-there,
-          length-append list (flatten (pieces cs)),
-        )

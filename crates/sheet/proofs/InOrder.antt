@@ -1,35 +1,32 @@
--- The reader's and the writer's checks in their order, put together from the header's, the strict course's and those that come after it.
+-- The reader's checks in their order, put together from the header's, the strict course's and those that come after it.
 use Prim.Native.Nat.{ℕ, suc, _+_, _-_, _%_, _≤_, _<_}
 use native.Mathlib.Omega.{arith}
 use mathlib.Core.Path.{_≡_, refl, sym, ap, ap₂, _∙_}
 use mathlib.Core.Logic.{_≢_}
 use mathlib.Core.Bool.{Bool, true, false, cond}
 use mathlib.Core.List.{List, [], _∷_}
-use lib.Dec.{eqb, ltb}
+use lib.Dec.{eqb}
 use lib.ListN.{length, take, drop, length-drop}
-use lib.Seq.{sets, length-sets, length-take-le}
-use borrow.Author.Tests.{eq-eqb, ne-eqb, le-ltb, lt-ltb, ltb-false}
-use Rattle.paper.specs.Buffers.{Work, short, entries, filled, after-call, written-to, laid}
+use lib.Seq.{length-take-le}
+use borrow.Author.Tests.{eq-eqb, ne-eqb, le-ltb}
+use Rattle.paper.specs.Buffers.{Work, short, entries, after-call}
 use Rattle.paper.specs.Class.{list-checks}
 use Rattle.paper.specs.Event.{events-of, how-many}
 use Rattle.paper.specs.Machine.{start, answers}
-use Rattle.paper.specs.Questions.{list-refusal, strict, Written, writing-refusal, writing}
+use Rattle.paper.specs.Questions.{list-refusal, strict}
 use Rattle.paper.specs.Reading.{header-checks, wrong-count, first-refused, begins, stamps-refused, read-of, reading-refusal, reading}
-use Rattle.paper.specs.Refusals.{first, Refusal, of-call, _then_, Outcome, refused, done, outcome}
-use Rattle.paper.specs.Sheet.{processes-in, list-offset, list-size, list-in, stamps-in, pieces, written}
+use Rattle.paper.specs.Refusals.{first, Refusal, of-call, _then_, refused, done}
+use Rattle.paper.specs.Sheet.{processes-in, list-offset, list-size, list-in, stamps-in, pieces}
 use Rattle.paper.proofs.Laws.Refused.{after-done}
 use Rattle.paper.proofs.Sheets.Header.{Header, header-says}
 use Rattle.course.specs.Said.{late, of-list}
-use Rattle.course.proofs.Passed.{is-refused, passed-on, Passed, strict-passed, late-cleared, late-refused}
-use Rattle.sheet.specs.Appended.{Appended}
+use Rattle.course.proofs.Passed.{passed-on, Passed, strict-passed, late-refused}
 use Rattle.sheet.specs.declared.header.Part.{Part}
 use Rattle.sheet.specs.declared.header.Parts.{Parts}
 use Rattle.sheet.specs.Header.{in-turn, parts-in, wrong-length, wrong-letters, wrong-version, wrong-zeros, wrong-list, wrong-stamps}
-use Rattle.sheet.specs.Said.{laying}
-use Rattle.sheet.specs.Slots.{slot-size, slot-pieces, slot-written, Slots}
+use Rattle.sheet.specs.Slots.{slot-pieces, Slots}
 use Rattle.sheet.proofs.Checks.{header-then}
-use Rattle.sheet.proofs.Filled.{slots-there, pieces-there, written-there, size-there}
-use Rattle.sheet.proofs.Stored.{laid-there}
+use Rattle.sheet.proofs.Filled.{slots-there, pieces-there}
 
 then-assoc : (a b c : Refusal) → ((a then b) then c) ≡ (a then (b then c))
 then-assoc a b c = go (eqb (a .number) 0) refl
@@ -133,62 +130,6 @@ module _ (b : List ℕ) (w : Work) where
 
 pub slots-passed : (n : ℕ) (list : List ℕ) (w w′ : Work) → Passed n list w w′ → Slots list (w′ .masks) (w′ .values)
 slots-passed n list w w′ p = rw (p .is) (slots-there n list (p .given .accepted) w)
-
--- What is laid: nothing where the output is too short, and otherwise the whole sheet.
-module _ (n : ℕ) (list : List ℕ) (w : Work) (out : List ℕ) (stamped : ℕ) (is : stamped ≡ slot-size list (w .masks)) where
-  pub short-out :
-      (given : Refusal) (w′ : Work) → given ≡ of-call 21 → length out < 24 + length list + stamped → w′ ≡ late n (how-many list) w
-      → _≡_ {A = Outcome Written × Work × List ℕ} (refused given, w′, out) (laying n list w out)
-  short-out given w′ g h e =
-      rw (lt-ltb (length out) (24 + length list + slot-size list (w .masks)) (rw is at h)) (λ i. (refused (g i), e i, out))
-
-  pub whole-out :
-      (out′ : List ℕ) → 24 + length list + stamped ≤ length out → out′ ≡ sets out 0 (slot-written n list (w .masks) (w .values))
-      → _≡_ {A = Outcome Written × Work × List ℕ} (done (record { events = how-many list; bytes = 24 + length list + stamped }), w, out′) (laying n list w out)
-  whole-out out′ h e =
-      rw (le-ltb (length out) (24 + length list + slot-size list (w .masks)) (rw is at h))
-      (λ i. (done (record { events = how-many list; bytes = 24 + length list + is i }), w, e i))
-
--- The writer after an accepted list.
-module _ (n : ℕ) (list : List ℕ) (w : Work) (out : List ℕ) where
-  pub write-refused : (given : Refusal) (w′ : Work) → (refused given, w′) ≡ strict n list w → (refused given, w′, out) ≡ writing n list w out
-  unfolding strict writing writing-refusal written-to
-  write-refused given w′ h =
-      let r = list-refusal n list w in
-      let (z, q) = is-refused r (entries (of-list n list)) given (ap (λ (p : Outcome ℕ × Work). p .0) h) in
-      let p : w′ ≡ after-call (r .number) n (how-many list) (of-list n list) w = ap (λ (p : Outcome ℕ × Work). p .1) h in
-      rw (ne-eqb (r .number) 0 z, ne-eqb (r .number) 0 z) (λ i. (refused (q i), p i, out))
-
-  pub write-passed : (w′ : Work) → Passed n list w w′ → laying n list w′ out ≡ writing n list w out
-  unfolding writing writing-refusal written-to filled
-  write-passed w′ p =
-      let size : 24 + length list + slot-size list (w′ .masks) ≡ length (written n list) = rw (p .is) (size-there n list (p .given .accepted) w) in
-      let bytes : slot-written n list (w′ .masks) (w′ .values) ≡ written n list = rw (p .is) (written-there n list (p .given .accepted) w) in
-      rw (p .none, size, bytes) (go (ltb (length out) (length (written n list))) refl)
-    where
-      m : ℕ
-      m = how-many list
-
-      xs : List ℕ
-      xs = written n list
-
-      answer : Written
-      answer = record { events = m; bytes = length xs }
-
-      go :
-          (t : Bool) → ltb (length out) (length xs) ≡ t
-          → _≡_ {A = Outcome Written × Work × List ℕ}
-          (cond t (refused (of-call 21), late n m w′, out) (done answer, w′, sets out 0 xs)) (
-            outcome (of-call (first t 21 0)) answer,
-            after-call (first t 21 0) n m (of-list n list) w,
-            cond (eqb (first t 21 0) 0) (laid (length xs) xs out) out,
-          )
-      go true e = let c = late-cleared n list w w′ p 21 (omega arith) in λ i. (refused (of-call 21), c i, out)
-      go false e =
-          let s = p .is ∙ sym (after-done 0 n m (of-list n list) w refl) in
-          let a : Appended out 0 xs (0 + length xs) (sets out 0 xs) = record { behind = refl; long = rw length-sets; bytes = refl } in
-          let l = laid-there a (ltb-false (length out) (length xs) e) in
-          λ i. (done answer, s i, l i)
 
 -- The reader over the parts that the header told, each cut from its offset to its end.
 module _ (b : List ℕ) (w w′ : Work) (p : Parts) (ok : header-checks b 0 ≡ 0) (e : p ≡ parts-in b) where

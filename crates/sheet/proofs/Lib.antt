@@ -4,5 +4,3 @@ pub mod Filled
 pub mod InOrder
 pub mod WithNumbers
 pub mod Slots
-pub mod Stored
-pub mod ReadBack

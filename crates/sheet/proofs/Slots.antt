@@ -1,20 +1,20 @@
 -- Sizes and places of the stamps in the work buffers.
-use Prim.Native.Nat.{ℕ, zero, suc, _+_, _-_, _*_, _≤_, _<_}
+use Prim.Native.Nat.{ℕ, zero, suc, _+_, _*_, _≤_, _<_}
 use mathlib.Core.Bool.{Bool, true, false, cond}
-use mathlib.Core.List.{List, [], _∷_, _++_, append-assoc, append-nil, flatMap, flatten}
+use mathlib.Core.List.{List, [], _∷_, _++_, append-assoc, append-nil, flatMap}
 use mathlib.Core.Path.{_≡_, refl, sym, ap, _∙_}
 use native.Mathlib.Numerals.{add-one}
 use native.Mathlib.Omega.{arith}
 use lib.Count.{ones}
 use lib.Dec.{eqb}
-use lib.ListN.{length, getD, take, drop, length-append, length-take, length-drop}
+use lib.ListN.{length, getD, take, drop, length-take, length-drop}
 use lib.Seq.{take-suc, take-nil, getD-drop}
 use Rattle.paper.specs.Buffers.{all-ones, values-begin}
 use Rattle.paper.specs.Bytes.{two-bytes, four-bytes}
 use Rattle.paper.specs.Event.{send, how-many}
 use Rattle.paper.specs.Sheet.{stamp-bytes}
 use Rattle.paper.proofs.Sheets.Sizes.{values-double}
-use Rattle.sheet.specs.Slots.{value-bytes, slot-stamp, kind-piece, kind-size, kind-at, pieces-from, size-from, slot-size, slot-stamps, Slots}
+use Rattle.sheet.specs.Slots.{value-bytes, slot-stamp, kind-piece, kind-size, Slots}
 
 -- One value more.
 values-end : (xs : List ℕ) (y : ℕ) → flatMap two-bytes (xs ++ (y ∷ [])) ≡ flatMap two-bytes xs ++ two-bytes y
@@ -65,33 +65,3 @@ pub values-there :
     (list masks vs : List ℕ) → Slots list masks vs → (i : ℕ) → i < how-many list → values-begin masks i + ones (getD masks i 0) ≤ length vs
 values-there list masks vs s i h =
     omega (arith, begin-more masks i (omega (arith, s .each-mask)), begin-later masks (i + 1) (how-many list) (omega arith), s .all-values)
-
--- The size from the event at i on: of all, by that event's, of none.
-pub size-start : (list masks : List ℕ) → 0 + size-from list masks (how-many list - 0) 0 ≡ slot-size list masks
-size-start list masks = let e : how-many list - 0 ≡ how-many list = omega arith in rw e (omega arith)
-
-pub size-more :
-    (list masks : List ℕ) (i : ℕ) → i < how-many list
-    → size-from list masks (how-many list - i) i ≡ kind-size (kind-at list i) (getD masks i 0) + size-from list masks (how-many list - (i + 1)) (i + 1)
-unfolding size-from
-size-more list masks i h = let e : how-many list - i ≡ suc (how-many list - suc i) = omega arith in rw (e, add-one)
-
-pub size-end : (list masks : List ℕ) (i : ℕ) → how-many list ≤ i → size-from list masks (how-many list - i) i ≡ 0
-unfolding size-from
-size-end list masks i h = let e : how-many list - i ≡ 0 = omega arith in rw e
-
--- The stamps take as many bytes as the masks say.
-module _ (list masks vs : List ℕ) (slots : Slots list masks vs) where
-  size-rest : (k i : ℕ) → i + k ≤ how-many list → length (flatten (pieces-from list masks vs k i)) ≡ size-from list masks k i
-  unfolding pieces-from size-from flatten
-  size-rest zero i h = refl
-  size-rest (suc k) i h =
-      omega (
-        arith,
-        length-append (kind-piece (kind-at list i) (getD masks i 0) vs (values-begin masks i)) (flatten (pieces-from list masks vs k (suc i))),
-        length-kind-piece vs (values-begin masks i) (getD masks i 0) (values-there list masks vs slots i (omega arith)) (kind-at list i),
-        size-rest k (suc i) (omega arith),
-      )
-
-  pub size-is : length (slot-stamps list masks vs) ≡ slot-size list masks
-  size-is = size-rest (how-many list) 0 (omega arith)

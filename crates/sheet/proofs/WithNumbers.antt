@@ -8,7 +8,7 @@ use mathlib.Core.Bool.{Bool, true, false, cond, _||_, or-false}
 use mathlib.Core.List.{List, []}
 use lib.Dec.{eqb, ltb}
 use lib.ListN.{length, take, drop, replicate, length-replicate}
-use borrow.Author.Tests.{ne-eqb, eq-eqb, lt-ltb, le-ltb, le-leb}
+use borrow.Author.Tests.{ne-eqb, lt-ltb, le-ltb, le-leb}
 use Rattle.paper.specs.Buffers.{Work, short, laid, entries}
 use Rattle.paper.specs.Event.{events-of, how-many}
 use Rattle.paper.specs.Lamport.{no-scalars, lamports, lamports-left}

@@ -1,4 +1,3 @@
-pub mod Appended
 pub mod Header
 pub mod Slots
 pub mod Said

@@ -1,14 +1,14 @@
 -- The stamps of a list as the work buffers hold them: a mask for each event, and its values where the ones of all earlier masks say.
 use Prim.Native.Nat.{ℕ, zero, suc, _+_, _*_, _≤_}
 use mathlib.Core.Bool.{cond}
-use mathlib.Core.List.{List, [], _∷_, _++_, flatMap, flatten}
+use mathlib.Core.List.{List, [], _∷_, flatMap}
 use lib.Count.{ones}
 use lib.Dec.{eqb}
 use lib.ListN.{length, getD, take, drop}
 use Rattle.paper.specs.Buffers.{values-begin}
 use Rattle.paper.specs.Bytes.{byte, two-bytes}
 use Rattle.paper.specs.Event.{send, how-many}
-use Rattle.paper.specs.Sheet.{stamp-bytes, header}
+use Rattle.paper.specs.Sheet.{stamp-bytes}
 
 -- The bytes of k values from place p on.
 abbrev pub value-bytes : List ℕ → ℕ → ℕ → List ℕ
@@ -38,22 +38,7 @@ module _ (list masks : List ℕ) where
   abbrev pub slot-pieces : List ℕ → List (List ℕ)
   slot-pieces vs = pieces-from vs (how-many list) 0
 
-  -- How many bytes k events from the one at i on have among the stamps: 4 for each send, and 2 for each value.
-  unfoldable pub size-from : ℕ → ℕ → ℕ
-  size-from zero i = 0
-  size-from (suc k) i = kind-size (kind-at list i) (getD masks i 0) + size-from k (suc i)
-
-  abbrev pub slot-size : ℕ
-  slot-size = size-from (how-many list) 0
-
   -- There is a mask for each event, and there are all the values that the masks say.
   pub record Slots (vs : List ℕ) : Type 0 where
     pub each-mask : how-many list ≤ length masks
     pub all-values : values-begin masks (how-many list) ≤ length vs
-
--- The stamps of all sends, and the sheet of n processes that is written.
-abbrev pub slot-stamps : List ℕ → List ℕ → List ℕ → List ℕ
-slot-stamps list masks vs = flatten (slot-pieces list masks vs)
-
-abbrev pub slot-written : ℕ → List ℕ → List ℕ → List ℕ → List ℕ
-slot-written n list masks vs = header n (length list) (length (slot-stamps list masks vs)) ++ (list ++ slot-stamps list masks vs)

@@ -9,20 +9,20 @@ pub(crate) fn wide(x: u8) -> usize
     x as usize
 }
 
-pub(crate) fn wide16(x: u16) -> usize
+pub fn wide16(x: u16) -> usize
     ensures { λ r. ⌜ (r ≡ x) × (r < 65536) ⌝ }
 {
     x as usize
 }
 
-pub(crate) fn wide32(x: u32) -> usize
+pub fn wide32(x: u32) -> usize
     ensures { λ r. ⌜ (r ≡ x) × (r < 2 ^ 32) ⌝ }
 {
     x as usize
 }
 
 // How many values a mask carries.
-pub(crate) fn ones_in(mask: u32) -> usize
+pub fn ones_in(mask: u32) -> usize
     ensures { λ r. ⌜ (r ≡ ones mask) × (r ≤ 32) ⌝ }
 {
     u32::count_ones(mask) as usize

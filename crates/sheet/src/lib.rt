@@ -1,18 +1,16 @@
-// Sheets: read, with every check in its order, and written.
-mod bytes;
+// Sheets: read, with every check in its order.
+pub mod bytes;
 mod header;
 mod reader;
-mod stamps;
-mod writer;
+pub mod stamps;
 
 ghost use mathlib.Core.Path.{_≡_};
 ghost use Rattle.course.specs.Said.{work};
 ghost use Rattle.paper.specs.Refusals.{of-call};
 ghost use Rattle.clock.specs.Said.{refusal};
-ghost use Rattle.sheet.specs.Said.{Reads, Numbers, Where, Writes};
+ghost use Rattle.sheet.specs.Said.{Reads, Numbers, Where};
 use clock::Position;
 use clock::Refusal;
-use course::Judged;
 use header::Heading;
 
 // What a sheet says: the process count, where its event list lies, and how many values the stamps carry.
@@ -27,12 +25,6 @@ pub struct Contents {
 pub enum Reading {
     Refused(Refusal),
     Accepted(Contents),
-}
-
-// What writing a sheet answers: how many events, and how many bytes are written.
-pub enum Wrote {
-    Refused(Refusal),
-    Done(usize, usize),
 }
 
 // A refusal that concerns no event.
@@ -76,22 +68,4 @@ pub fn read(sheet: &[u8], clocks: &mut [u16], masks: &mut [u32], values: &mut [u
 {
     let mut lamports = [0u16; 512];
     read_lamport(sheet, clocks, masks, values, &mut lamports)
-}
-
-// Writing: 4, 8, 9, events in order, 21; the events at 24, the stamps straight after.
-pub fn write(
-    n: usize,
-    list: &[u8],
-    clocks: &mut [u16],
-    masks: &mut [u32],
-    values: &mut [u16],
-    out: &mut [u8],
-) -> Wrote
-    ensures { λ r. ⌜ Writes n (now (list .entry)) (work (now (clocks .entry)) (now (masks .entry)) (now (values .entry))) (now (out .entry))
-        r (work (now (clocks .exit)) (now (masks .exit)) (now (values .exit))) (now (out .exit)) ⌝ }
-{
-    match course::strict(n, list, clocks, masks, values) {
-        Judged::Refused(r) => Wrote::Refused(r),
-        Judged::Done(_) => writer::written(n, list, clocks, masks, values, out),
-    }
 }

@@ -71,7 +71,7 @@ fn same_piece(s: &[u8], at: usize, kind: u8, mask: u32, values: &[u16], place: u
 }
 
 // How many bytes an event of this kind has among the stamps.
-pub(crate) fn piece_size(kind: u8, mask: u32) -> usize
+pub fn piece_size(kind: u8, mask: u32) -> usize
     ensures { λ r. ⌜ (r ≡ kind-size kind mask) × (r ≤ 68) ⌝ }
 {
     if kind != 1 {

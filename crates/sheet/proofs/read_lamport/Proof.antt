@@ -1,6 +1,4 @@
 use mathlib.Core.Path.{_≡_, ap, sym, _∙_}
-use mathlib.Core.Logic.{_≢_}
-use native.Mathlib.Omega.{arith}
 use denote.Ref.{now}
 use Rattle.paper.proofs.Sheets.Checks.{is-done}
 use Rattle.paper.specs.Reading.{header-checks}

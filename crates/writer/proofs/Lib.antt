@@ -1,0 +1,4 @@
+pub mod InOrder
+pub mod Sizes
+pub mod Stored
+pub mod ReadBack

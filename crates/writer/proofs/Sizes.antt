@@ -1,0 +1,66 @@
+-- How many bytes the stamps take, and that from the slots of an accepted list the paper's sheet is written.
+use Prim.Native.Nat.{ℕ, zero, suc, _+_, _-_, _≤_, _<_}
+use mathlib.Core.List.{List, flatten}
+use mathlib.Core.Path.{_≡_, refl, ap}
+use native.Mathlib.Numerals.{add-one}
+use native.Mathlib.Omega.{arith}
+use lib.ListN.{length, getD, replicate, length-append}
+use Rattle.course.specs.Said.{of-list}
+use Rattle.paper.specs.Buffers.{Work, values-begin, filled}
+use Rattle.paper.specs.Bytes.{two-bytes, four-bytes, text}
+use Rattle.paper.specs.Event.{how-many, events-of}
+use Rattle.paper.specs.Machine.{start, answers}
+use Rattle.paper.specs.Sheet.{pieces, stamps-part, header, written}
+use Rattle.sheet.specs.Slots.{kind-piece, kind-size, kind-at, pieces-from, Slots}
+use Rattle.sheet.proofs.Filled.{slots-there, pieces-there}
+use Rattle.sheet.proofs.Slots.{length-kind-piece, values-there}
+use Rattle.writer.specs.Sizes.{size-from, slot-size, slot-stamps, slot-written}
+
+-- The size from the event at i on: of all, by that event's, of none.
+pub size-start : (list masks : List ℕ) → 0 + size-from list masks (how-many list - 0) 0 ≡ slot-size list masks
+size-start list masks = let e : how-many list - 0 ≡ how-many list = omega arith in rw e (omega arith)
+
+pub size-more :
+    (list masks : List ℕ) (i : ℕ) → i < how-many list
+    → size-from list masks (how-many list - i) i ≡ kind-size (kind-at list i) (getD masks i 0) + size-from list masks (how-many list - (i + 1)) (i + 1)
+unfolding size-from
+size-more list masks i h = let e : how-many list - i ≡ suc (how-many list - suc i) = omega arith in rw (e, add-one)
+
+pub size-end : (list masks : List ℕ) (i : ℕ) → how-many list ≤ i → size-from list masks (how-many list - i) i ≡ 0
+unfolding size-from
+size-end list masks i h = let e : how-many list - i ≡ 0 = omega arith in rw e
+
+-- The stamps take as many bytes as the masks say.
+module _ (list masks vs : List ℕ) (slots : Slots list masks vs) where
+  size-rest : (k i : ℕ) → i + k ≤ how-many list → length (flatten (pieces-from list masks vs k i)) ≡ size-from list masks k i
+  unfolding pieces-from size-from flatten
+  size-rest zero i h = refl
+  size-rest (suc k) i h =
+      omega (
+        arith,
+        length-append (kind-piece (kind-at list i) (getD masks i 0) vs (values-begin masks i)) (flatten (pieces-from list masks vs k (suc i))),
+        length-kind-piece vs (values-begin masks i) (getD masks i 0) (values-there list masks vs slots i (omega arith)) (kind-at list i),
+        size-rest k (suc i) (omega arith),
+      )
+
+  pub size-is : length (slot-stamps list masks vs) ≡ slot-size list masks
+  size-is = size-rest (how-many list) 0 (omega arith)
+
+module _ (n : ℕ) (list : List ℕ) (ok : answers n start (events-of list) ≡ replicate (length (events-of list)) 0) (w : Work) where
+  abbrev full : Work
+  full = filled n (how-many list) (of-list n list) w
+
+  pub written-there : slot-written n list (full .masks) (full .values) ≡ written n list
+  unfolding written stamps-part
+  written-there = rw (pieces-there n list ok w)
+
+  -- What check 21 compares with the length of the output.
+  pub size-there : 24 + length list + slot-size list (full .masks) ≡ length (written n list)
+  unfolding written stamps-part header text two-bytes four-bytes
+  size-there =
+      omega (
+        arith,
+        size-is list (full .masks) (full .values) (slots-there n list ok w),
+        ap (λ (ps : List (List ℕ)). length (flatten ps)) (pieces-there n list ok w),
+        length-append list (flatten (pieces (of-list n list))),
+      )
