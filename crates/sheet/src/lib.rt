@@ -1,5 +1,5 @@
 // Sheets: read, with every check in its order.
-pub mod bytes;
+mod bytes;
 mod header;
 mod reader;
 pub mod stamps;

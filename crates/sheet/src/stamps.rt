@@ -9,12 +9,18 @@ ghost use Rattle.paper.specs.Bytes.{two-bytes, four-bytes};
 ghost use Rattle.paper.specs.Reading.{begins, stamps-refused};
 ghost use Rattle.paper.specs.Refusals.{first, of-call};
 ghost use Rattle.sheet.specs.Slots.{value-bytes, slot-stamp, kind-piece, kind-size, slot-pieces, Slots};
-use super::bytes::ones_in;
 use super::bytes::wide;
 use super::bytes::wide16;
 use super::bytes::wide32;
 use clock::Position;
 use clock::Refusal;
+
+// How many values a mask carries.
+pub fn ones_in(mask: u32) -> usize
+    ensures { λ r. ⌜ (r ≡ ones mask) × (r ≤ 32) ⌝ }
+{
+    u32::count_ones(mask) as usize
+}
 
 fn same_two(s: &[u8], at: usize, v: usize) -> bool
     requires { ⌜ at + 2 ≤ length (now s) ⌝ }

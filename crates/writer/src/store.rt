@@ -15,9 +15,7 @@ ghost use Rattle.writer.specs.Said.{wrote, laying};
 use super::Wrote;
 use clock::Position;
 use clock::Refusal;
-use sheet::bytes::ones_in;
-use sheet::bytes::wide16;
-use sheet::bytes::wide32;
+use sheet::stamps::ones_in;
 use sheet::stamps::piece_size;
 
 fn put(out: &mut [u8], at: usize, b: u8) -> usize
@@ -69,7 +67,7 @@ fn put_values(out: &mut [u8], at: usize, values: &[u16], place: usize, k: usize)
     let mut to = at;
     let mut j: usize = 0;
     while j < k {
-        to = put_two(out, to, wide16(values[place + j]));
+        to = put_two(out, to, values[place + j] as usize);
         j += 1;
     }
     to
@@ -79,7 +77,7 @@ fn put_stamp(out: &mut [u8], at: usize, mask: u32, values: &[u16], place: usize)
     requires { ⌜ (at + (4 + 2 * ones mask) ≤ length (now out)) × (place + ones mask ≤ length (now values)) ⌝ }
     ensures { λ r. ⌜ Appended (now (out .entry)) at (slot-stamp mask (now (values .entry)) place) r (now (out .exit)) ⌝ }
 {
-    let to = put_four(out, at, wide32(mask));
+    let to = put_four(out, at, mask as usize);
     put_values(out, to, values, place, ones_in(mask))
 }
 

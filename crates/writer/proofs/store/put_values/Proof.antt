@@ -1,6 +1,6 @@
-use Prim.Native.Nat.{_≤_, _-_}
+use Prim.Native.Nat.{_≤_, _-_, _+_}
 use mathlib.Core.List.{flatMap}
-use mathlib.Core.Path.{_≡_}
+use mathlib.Core.Path.{_≡_, refl}
 use native.Mathlib.Omega.{arith}
 use borrow.Author.Needs.{needs}
 use Rattle.writer.specs.Appended.{Appended}
@@ -20,19 +20,22 @@ loop-holds : tie.Need-loop-holds Inv-loop μ-loop
 unfolding flatMap
 loop-holds c = (omega arith, none _ _)
 
+cast-put-two : tie.Need-cast-put-two Inv-loop μ-loop
+cast-put-two c = let k = c .before .before .before in omega (arith, c .shared-slice-known2 .given (k .before .before .before .args .place + k .loop .j))
+
 put-two-requires : tie.Need-put-two-requires Inv-loop μ-loop
 put-two-requires c κs =
-    let l = c .before .before .before .before in
+    let l = c .before .before .before in
     let i = l .loop .inv in
     let a = l .before .before .before .args in
     omega (arith, i .1 .behind, i .1 .long, length-value-bytes (a .values .now) (a .place) (l .loop .j) (omega arith), l .before .before .before .pre .0)
 
 loop-again : tie.Need-loop-again Inv-loop μ-loop
 loop-again c =
-    let l = c .before .before .before .before .before .before .before in
+    let l = c .before .before .before .before .before .before in
     let a = l .before .before .before .args in (
       omega arith,
-      value-more (a .values .now) (a .place) (l .loop .j) _ (omega arith) (c .before .before .before .wide16 .ensures .0) (l .loop .inv .1) (c .before .before .put-two .ensures),
+      value-more (a .values .now) (a .place) (l .loop .j) _ (omega arith) refl (l .loop .inv .1) (c .before .before .put-two .ensures),
     )
 
 same-length : tie.Need-same-length Inv-loop μ-loop
@@ -53,7 +56,7 @@ put-values-spec =
     (λ c. search needs)
     (λ c. search needs)
     (λ c. search needs)
-    (λ c κs. search needs)
+    cast-put-two
     put-two-requires
     (λ c. search needs)
     (λ c. search needs)

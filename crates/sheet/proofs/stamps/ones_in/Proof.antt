@@ -1,8 +1,8 @@
 use mathlib.Core.Path.{refl}
 use native.Mathlib.Omega.{arith}
 use lib.Count.{ones-le}
-use Rattle.sheet.proofs.bytes.ones_in.Statement.{statement}
-use Rattle.sheet.proofs.bytes.ones_in.Tie as tie
+use Rattle.sheet.proofs.stamps.ones_in.Statement.{statement}
+use Rattle.sheet.proofs.stamps.ones_in.Tie as tie
 
 cast-result : tie.Need-cast-result
 cast-result c = omega (arith, ones-le 32 (c .args .mask) (c .fits .mask .fits))
