@@ -1,4 +1,6 @@
 // `chain FIRST SECOND < SHEET`: the chain from one event of a sheet to another.
+mod answer;
+
 use clock::Position;
 use libc::STDERR_FILENO;
 use libc::STDIN_FILENO;
@@ -13,7 +15,7 @@ fn main() {
     let mut sheet = [0u8; 40961];
     let size = io::read_full(STDIN_FILENO, &mut sheet);
     let mut page = [0u8; desk::PAGE];
-    let length = desk::chain_answer(
+    let length = answer::chain_answer(
         &sheet[0..size],
         Position(first),
         Position(second),

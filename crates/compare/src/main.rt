@@ -1,4 +1,6 @@
 // `compare FIRST SECOND < SHEET`: the verdict on two events of a sheet.
+mod answer;
+
 use clock::Position;
 use libc::STDERR_FILENO;
 use libc::STDIN_FILENO;
@@ -13,7 +15,7 @@ fn main() {
     let mut sheet = [0u8; 40961];
     let size = io::read_full(STDIN_FILENO, &mut sheet);
     let mut page = [0u8; desk::PAGE];
-    let length = desk::compare_answer(
+    let length = answer::compare_answer(
         &sheet[0..size],
         Position(first),
         Position(second),

@@ -1,7 +1,3 @@
-mod Answered
-mod Asked
-mod Listed
-mod Marked
-mod SheetOut
+pub mod Listed
+pub mod Roomy
 pub mod NeverShort
-pub mod OnePage

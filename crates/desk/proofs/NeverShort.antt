@@ -28,7 +28,7 @@ use Rattle.sheet.proofs.Checks.{header-then}
 use Rattle.sheet.proofs.WithNumbers.{unasked}
 use Rattle.marks.proofs.Judged.{short-lines}
 use Rattle.desk.specs.Answers.{ample, write-refusal, write-answer}
-use Rattle.desk.proofs.SheetOut.{roomy, never-scant, same-refusal}
+use Rattle.desk.proofs.Roomy.{roomy, never-scant, same-refusal}
 
 abbrev pub Other : ℕ → Type 0
 Other c = (c ≢ 9) × (c ≢ 21)

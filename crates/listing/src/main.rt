@@ -1,4 +1,6 @@
 // `listing [lamport] < SHEET`: the events of a sheet with their clocks and masks, and with their Lamport numbers where the word asks for them.
+mod answer;
+
 use desk::Wanted;
 use libc::STDERR_FILENO;
 use libc::STDIN_FILENO;
@@ -11,12 +13,12 @@ fn main() {
     match desk::listing_wanted() {
         Wanted::Plain => {
             let size = io::read_full(STDIN_FILENO, &mut sheet);
-            let length = desk::listing_answer(&sheet[0..size], &mut page);
+            let length = answer::listing_answer(&sheet[0..size], &mut page);
             desk::print(STDOUT_FILENO, &page, length);
         }
         Wanted::Lamport => {
             let size = io::read_full(STDIN_FILENO, &mut sheet);
-            let length = desk::listing_lamport_answer(&sheet[0..size], &mut page);
+            let length = answer::listing_lamport_answer(&sheet[0..size], &mut page);
             desk::print(STDOUT_FILENO, &page, length);
         }
         Wanted::Unknown => {

@@ -1,4 +1,6 @@
 // `marker FILE < SHEET`: the marks of a pupil's list on a sheet, and the total.
+mod answer;
+
 use libc::STDERR_FILENO;
 use libc::STDIN_FILENO;
 use libc::STDOUT_FILENO;
@@ -25,6 +27,6 @@ fn main() {
     let mut sheet = [0u8; 40961];
     let size = io::read_full(STDIN_FILENO, &mut sheet);
     let mut page = [0u8; desk::PAGE];
-    let length = desk::marker_answer(&sheet[0..size], &list[0..count], &mut page);
+    let length = answer::marker_answer(&sheet[0..size], &list[0..count], &mut page);
     desk::print(STDOUT_FILENO, &page, length);
 }

@@ -1,0 +1,2 @@
+mod SheetOut
+pub mod OnePage
