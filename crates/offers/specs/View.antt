@@ -8,6 +8,7 @@ use lib.ListN.{length, getD}
 use Rattle.paper.specs.Clock.{part}
 use Rattle.paper.specs.Event.{Event}
 use Rattle.paper.specs.Running.{Running}
+use Rattle.paper.specs.Stamp.{mask}
 use Rattle.offers.specs.declared.event.Event as declared
 use Rattle.offers.specs.declared.record.Record.{Record}
 
@@ -42,3 +43,14 @@ pub record Whole (v u s : List ℕ) : Type 0 where
   pub clock : length v ≡ 32
   pub updated : length u ≡ 32
   pub sent : length s ≡ 32
+
+-- A mask of components, bits 32 and up being 0.
+pub record Mask-of-all (m : ℕ) : Type 0 where
+  pub told : ℕ → Bool
+  pub is : m ≡ mask told 32
+
+-- A mask that tells of each component other than i whether it grew after the own number s.
+pub record But-for (i m : ℕ) (updated : List ℕ) (s : ℕ) : Type 0 where
+  pub told : ℕ → Bool
+  pub is : m ≡ mask told 32
+  pub others : (k : ℕ) → (k ≡ i → ⊥) → told k ≡ newer updated s k

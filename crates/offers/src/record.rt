@@ -1,5 +1,6 @@
 // A process's running record: what a send carries, and what a receive takes in. Its three arrays are changed where they stand.
 ghost use mathlib.Core.Path.{_≡_};
+ghost use mathlib.Core.Bool.{Bool};
 ghost use mathlib.Core.List.{List};
 ghost use Prim.Native.Nat.{ℕ, _+_, _≤_, _<_};
 ghost use lib.ListN.{length, getD, set};
@@ -7,7 +8,7 @@ ghost use lib.Seq.{sets};
 ghost use Rattle.paper.specs.Clock.{part};
 ghost use Rattle.paper.specs.Stamp.{mask, bit, count, values, unpacked, upto};
 ghost use Rattle.paper.specs.Running.{counting, sending, receiving, news};
-ghost use Rattle.offers.specs.View.{viewing, newer, Whole};
+ghost use Rattle.offers.specs.View.{viewing, newer, Whole, But-for, Mask-of-all};
 use clock::Process;
 
 pub struct Record {
@@ -46,20 +47,26 @@ fn pick(clock: &[u16; 32], mask: u32, out: &mut [u16], at: usize)
     }
 }
 
-// The mask of the components below n that grew after `last`; their values are stored in `out` from `at` on.
-fn gather(
-    clock: &[u16; 32],
-    updated: &[u16; 32],
-    last: u16,
-    n: usize,
-    out: &mut [u16],
-    at: usize,
-) -> u32
-    requires { ⌜ (at + n ≤ length (now out)) × (n ≤ 32) ⌝ }
-    ensures { λ r. ⌜ r ≡ mask (newer (now (updated .entry)) last) n ⌝ }
-    ensures { λ _. ⌜ now (out .exit) ≡ sets (now (out .entry)) at (values (newer (now (updated .entry)) last) (now (clock .entry)) n) ⌝ }
+// The same once component i grew anew, of the mask `earlier` that was made before.
+fn regrown(earlier: u32, updated: &[u16; 32], i: usize, last: u16) -> u32
+    requires { ⌜ (i < 32) × But-for i earlier (now updated) last ⌝ }
+    ensures { λ r. ⌜ r ≡ mask (newer (now (updated .entry)) last) 32 ⌝ }
 {
-    let m = ((grown(updated, last) as u64) % (1u64 << n)) as u32;
+    let own = 1u32 << i;
+    let all = earlier | own;
+    if last < updated[i] {
+        return all;
+    }
+    all - own
+}
+
+// The mask of the components below n, of the mask of all; their values are stored in `out` from `at` on.
+fn gather(clock: &[u16; 32], all: u32, n: usize, out: &mut [u16], at: usize) -> u32
+    requires { ⌜ (at + n ≤ length (now out)) × (n ≤ 32) × Mask-of-all all ⌝ }
+    ensures { λ r. ⌜ ((p : ℕ → Bool) → all ≡ mask p 32
+        → (r ≡ mask p n) × (now (out .exit) ≡ sets (now (out .entry)) at (values p (now (clock .entry)) n))) ⌝ }
+{
+    let m = ((all as u64) % (1u64 << n)) as u32;
     pick(clock, m, out, at);
     m
 }
@@ -120,10 +127,14 @@ pub(crate) fn cut(
         (values (news (counting (from .0) (viewing (now (clock .entry)) (now (updated .entry)) (now (sent .entry)))) (to .0))
         (counting (from .0) (viewing (now (clock .entry)) (now (updated .entry)) (now (sent .entry))) .clock) n)) ⌝ }
 {
-    count(from, clock, updated);
     let i = from.0 as usize;
     let j = to.0 as usize;
-    let mask = gather(clock, updated, sent[j], n, out, at);
+    let last = sent[j];
+    // Before the own number is stored: to look at eight numbers of which one was just stored is to wait for it.
+    let earlier = grown(updated, last);
+    count(from, clock, updated);
+    let all = regrown(earlier, updated, i, last);
+    let mask = gather(clock, all, n, out, at);
     sent[j] = clock[i];
     mask
 }

@@ -1,8 +1,10 @@
-//! A tuned implementation to hold the library's times against: class mode and reading, in two forms that differ
-//! in how a send's mask is made: one component after another, or (`WIDE`) several at a time.
+//! A tuned implementation to hold the library's times against: class mode and reading, in forms that differ
+//! in how a send's mask is made and how a receive walks one.
 //!
 //! Used numbers are a bit set, queues are threaded through the accepted events, and stamps are cut
 //! from the running record of source document 000 with its last update and last sent.
+
+use std::marker::PhantomData;
 
 use second::calls::Work;
 use second::clock::MOST_PROCESSES;
@@ -11,6 +13,8 @@ use second::packed::pack;
 use second::sheet::{HEADER_SIZE, MOST_SHEET_BYTES};
 use second::stamp::{MASK_SIZE, VALUE_SIZE};
 use second::Check;
+
+use crate::merge::Merge;
 
 const NONE: u16 = u16::MAX;
 const CHANNELS: usize = MOST_PROCESSES * MOST_PROCESSES;
@@ -31,7 +35,37 @@ const NEW_RECORD: Record = Record {
     last_sent: [0; MOST_PROCESSES],
 };
 
-struct Anchor<'a, const WIDE: bool> {
+/// A form of the anchor.
+pub trait Form {
+    /// A send's mask is made several components at a time, not one after another.
+    const WIDE: bool;
+    /// A merge looks at all thirty-two components, not only at the carried ones.
+    const LOOKS_AT_ALL: bool;
+}
+
+pub struct Plain;
+
+impl Form for Plain {
+    const WIDE: bool = false;
+    const LOOKS_AT_ALL: bool = false;
+}
+
+pub struct Wide;
+
+impl Form for Wide {
+    const WIDE: bool = true;
+    const LOOKS_AT_ALL: bool = false;
+}
+
+pub struct LooksAtAll;
+
+impl Form for LooksAtAll {
+    const WIDE: bool = true;
+    const LOOKS_AT_ALL: bool = true;
+}
+
+struct Anchor<'a, F: Form> {
+    form: PhantomData<F>,
     n: usize,
     work: Work<'a>,
     accepted: usize,
@@ -45,7 +79,7 @@ struct Anchor<'a, const WIDE: bool> {
     values_begin: [u16; MOST_EVENTS],
 }
 
-pub fn class<const WIDE: bool>(n: usize, list: &[u8], work: Work, answers: &mut [u8]) -> u64 {
+pub fn class<F: Form>(n: usize, list: &[u8], work: Work, answers: &mut [u8]) -> u64 {
     if !(1..=MOST_PROCESSES).contains(&n) {
         return refused(Check::ProcessCount, 0);
     }
@@ -56,7 +90,7 @@ pub fn class<const WIDE: bool>(n: usize, list: &[u8], work: Work, answers: &mut 
     if !has_room(&work, n, m) || answers.len() < m {
         return refused(Check::WorkLength, 0);
     }
-    let mut anchor = Anchor::<WIDE>::new(n, m, work);
+    let mut anchor = Anchor::<F>::new(n, m, work);
     for (record, answer) in list.chunks_exact(RECORD_SIZE).zip(answers) {
         *answer = match anchor.offer(record) {
             Ok(()) => 0,
@@ -67,7 +101,7 @@ pub fn class<const WIDE: bool>(n: usize, list: &[u8], work: Work, answers: &mut 
     pack(0, 0, anchor.accepted, anchor.entries)
 }
 
-pub fn read<const WIDE: bool>(sheet: &[u8], work: Work) -> u64 {
+pub fn read<F: Form>(sheet: &[u8], work: Work) -> u64 {
     let header = match header_of(sheet) {
         Ok(header) => header,
         Err(check) => return refused(check, 0),
@@ -76,7 +110,7 @@ pub fn read<const WIDE: bool>(sheet: &[u8], work: Work) -> u64 {
     if !has_room(&work, header.processes, m) {
         return refused(Check::WorkLength, 0);
     }
-    let mut anchor = Anchor::<WIDE>::new(header.processes, m, work);
+    let mut anchor = Anchor::<F>::new(header.processes, m, work);
     match anchor.judge(&header) {
         Ok(()) => {
             anchor.clear_unused();
@@ -99,10 +133,11 @@ fn has_room(work: &Work, n: usize, m: usize) -> bool {
     work.clocks.len() >= n * m && work.masks.len() >= m && work.values.len() >= n * m
 }
 
-impl<'a, const WIDE: bool> Anchor<'a, WIDE> {
+impl<'a, F: Form> Anchor<'a, F> {
     /// Keeps only the named slots of the work buffers.
     fn new(n: usize, m: usize, work: Work<'a>) -> Self {
         Anchor {
+            form: PhantomData,
             n,
             work: Work {
                 clocks: &mut work.clocks[..n * m],
@@ -143,26 +178,25 @@ impl<'a, const WIDE: bool> Anchor<'a, WIDE> {
                 self.count(process);
             }
         }
+        self.lay(process);
         self.accepted += 1;
         Ok(())
     }
 
-    /// Puts the new clock into its slots: the old one is copied whole and then raised in both places,
-    /// as a wide load waits long for a narrow store just before it.
     #[inline]
     fn count(&mut self, process: usize) -> u16 {
         let record = &mut self.records[process];
-        let rest = &mut self.work.clocks[self.accepted * self.n..];
-        match rest.first_chunk_mut::<MOST_PROCESSES>() {
-            // The numbers past n are 0, as slots not yet used must be.
-            Some(slots) => *slots = record.clock,
-            None => rest[..self.n].copy_from_slice(&record.clock[..self.n]),
-        }
         let own = record.clock[process] + 1;
         record.clock[process] = own;
         record.last_update[process] = own;
-        rest[process] = own;
         own
+    }
+
+    #[inline]
+    fn lay(&mut self, process: usize) {
+        let clock = &self.records[process].clock[..self.n];
+        let begin = self.accepted * self.n;
+        self.work.clocks[begin..begin + self.n].copy_from_slice(clock);
     }
 
     #[inline]
@@ -176,7 +210,7 @@ impl<'a, const WIDE: bool> Anchor<'a, WIDE> {
         self.join_queue(process * MOST_PROCESSES + addressee, number);
         let record = &self.records[process];
         let sent = record.last_sent[addressee];
-        let grown = if WIDE {
+        let grown = if F::WIDE {
             greater_at_once(&record.last_update, sent)
         } else {
             greater_one_by_one(&record.last_update[..self.n], sent)
@@ -226,18 +260,18 @@ impl<'a, const WIDE: bool> Anchor<'a, WIDE> {
     fn merge(&mut self, process: usize, send: usize) {
         let own = self.count(process);
         let record = &mut self.records[process];
-        let slots = &mut self.work.clocks[self.accepted * self.n..];
         let begin = usize::from(self.values_begin[send]);
-        let mut mask = self.work.masks[send];
-        let carried = mask.count_ones() as usize;
-        for value in &self.work.values[begin..begin + carried] {
-            let k = mask.trailing_zeros() as usize % MOST_PROCESSES;
-            mask &= mask - 1;
-            if *value > record.clock[k] {
-                slots[k] = *value;
-                record.clock[k] = *value;
-                record.last_update[k] = own;
-            }
+        let mut merge = Merge {
+            clock: &mut record.clock,
+            last_update: &mut record.last_update,
+            own,
+        };
+        let mask = self.work.masks[send];
+        let values = &self.work.values[begin..];
+        if F::LOOKS_AT_ALL {
+            merge.look_at_all(mask, values);
+        } else {
+            merge.walk(mask, values);
         }
     }
 
@@ -394,9 +428,10 @@ mod tests {
     use crate::sides::{call, Buffers, Side, Task, TimedCall};
 
     const CASES: u64 = 20_000;
+    const FORMS: [Side; 3] = [Side::Tuned, Side::Wide, Side::LooksAtAll];
 
     #[test]
-    fn both_anchors_agree_with_the_second_program() {
+    fn all_forms_agree_with_the_second_program() {
         for index in 0..CASES {
             let case = case_of(seed_of_case(11, index));
             let timed = match case.call {
@@ -410,12 +445,14 @@ mod tests {
                 input: case.input,
             };
             let lent = Buffers::with_lengths(case.work, case.output);
-            let [second, tuned, wide] = [Side::Second, Side::Tuned, Side::Wide].map(|side| {
+            let answered = |side| {
                 let mut buffers = lent.clone();
                 (call(side, &task, &mut buffers), buffers)
-            });
-            assert_eq!(tuned, second);
-            assert_eq!(wide, second);
+            };
+            let expected = answered(Side::Second);
+            for form in FORMS {
+                assert_eq!(answered(form), expected, "{form:?}");
+            }
         }
     }
 }

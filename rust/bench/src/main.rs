@@ -1,16 +1,12 @@
 //! Times class mode and reading: the library, the second program, two tuned anchors and the floor.
 
-mod anchor;
-mod sides;
-mod tasks;
-mod timing;
-
 use std::hint::black_box;
+use std::rc::Rc;
 
+use bench::sides::{call, Buffers, Floor, Side};
+use bench::tasks::{self, Row};
+use bench::timing::{best_nanoseconds, Run, REPETITIONS};
 use oboefinch::Answer;
-use sides::{call, Buffers, Floor, Side};
-use tasks::Row;
-use timing::{best_nanoseconds, REPETITIONS};
 
 const SIDES: [Side; 4] = [Side::Library, Side::Second, Side::Tuned, Side::Wide];
 
@@ -23,14 +19,21 @@ fn main() {
     println!("| call | shape | events | processes | library | second | tuned | wide | floor | library / tuned |");
     println!("|---|---|---:|---:|---:|---:|---:|---:|---:|---:|");
     for row in tasks::rows() {
-        print_row(&row);
+        print_row(row);
     }
 }
 
-fn print_row(row: &Row) {
-    let floor = agreed_result(row);
-    let times = times_of_row(row, &floor);
-    let [library, second, tuned, wide, floor] = times.map(|whole| whole / row.events as f64);
+fn print_row(row: Row) {
+    let row = Rc::new(row);
+    let floor = agreed_result(&row);
+    let times = times_of_row(&row, floor);
+    let each: Vec<f64> = times
+        .iter()
+        .map(|whole| whole / row.events as f64)
+        .collect();
+    let [library, second, tuned, wide, floor] = each[..] else {
+        unreachable!("one time for each side and the floor");
+    };
     println!(
         "| {:?} | {} | {} | {} | {library:.1} | {second:.1} | {tuned:.1} | {wide:.1} | {floor:.1} | {:.2} |",
         row.task.call,
@@ -41,22 +44,22 @@ fn print_row(row: &Row) {
     );
 }
 
-fn times_of_row(row: &Row, floor: &Floor) -> [f64; 5] {
-    let [mut library, mut second, mut tuned, mut wide] = SIDES.map(|side| {
-        let mut buffers = buffers_for(row);
-        move || {
-            black_box(call(side, black_box(&row.task), black_box(&mut buffers)));
-        }
-    });
+fn times_of_row(row: &Rc<Row>, floor: Floor) -> Vec<f64> {
+    let mut runs: Vec<Run> = SIDES
+        .iter()
+        .map(|side| {
+            let (side, row, mut buffers) = (*side, Rc::clone(row), buffers_for(row));
+            let run = move || {
+                black_box(call(side, black_box(&row.task), black_box(&mut buffers)));
+            };
+            Box::new(run) as Run
+        })
+        .collect();
     let mut buffers = buffers_for(row);
-    let mut clear_and_fill = || black_box(floor).clear_and_fill(black_box(&mut buffers));
-    best_nanoseconds([
-        &mut library,
-        &mut second,
-        &mut tuned,
-        &mut wide,
-        &mut clear_and_fill,
-    ])
+    runs.push(Box::new(move || {
+        black_box(&floor).clear_and_fill(black_box(&mut buffers))
+    }));
+    best_nanoseconds(&mut runs)
 }
 
 /// Checks that all sides give the same, and keeps it as the floor's results.

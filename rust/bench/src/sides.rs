@@ -6,7 +6,8 @@ use second::calls::Work;
 use second::event::RECORD_SIZE;
 use second::packed;
 
-use crate::anchor;
+use crate::anchor::{self, LooksAtAll, Plain, Wide};
+use crate::opened::Opened;
 
 #[derive(Clone, Copy, Debug, PartialEq, Eq)]
 pub enum TimedCall {
@@ -14,12 +15,14 @@ pub enum TimedCall {
     Read,
 }
 
-#[derive(Clone, Copy, Debug, PartialEq, Eq)]
+#[derive(Clone, Copy, Debug)]
 pub enum Side {
     Library,
     Second,
     Tuned,
     Wide,
+    LooksAtAll,
+    Before(&'static Opened),
 }
 
 /// A call and its input: a list for class mode, a sheet for reading.
@@ -74,10 +77,16 @@ pub fn call(side: Side, task: &Task, buffers: &mut Buffers) -> u64 {
         (Side::Library, TimedCall::Read) => raw::read(input, work.clocks, work.masks, work.values),
         (Side::Second, TimedCall::Class) => packed::class(n, input, work, answers),
         (Side::Second, TimedCall::Read) => packed::read(input, work),
-        (Side::Tuned, TimedCall::Class) => anchor::class::<false>(n, input, work, answers),
-        (Side::Tuned, TimedCall::Read) => anchor::read::<false>(input, work),
-        (Side::Wide, TimedCall::Class) => anchor::class::<true>(n, input, work, answers),
-        (Side::Wide, TimedCall::Read) => anchor::read::<true>(input, work),
+        (Side::Tuned, TimedCall::Class) => anchor::class::<Plain>(n, input, work, answers),
+        (Side::Tuned, TimedCall::Read) => anchor::read::<Plain>(input, work),
+        (Side::Wide, TimedCall::Class) => anchor::class::<Wide>(n, input, work, answers),
+        (Side::Wide, TimedCall::Read) => anchor::read::<Wide>(input, work),
+        (Side::LooksAtAll, TimedCall::Class) => {
+            anchor::class::<LooksAtAll>(n, input, work, answers)
+        }
+        (Side::LooksAtAll, TimedCall::Read) => anchor::read::<LooksAtAll>(input, work),
+        (Side::Before(library), TimedCall::Class) => library.class(n, input, work, answers),
+        (Side::Before(library), TimedCall::Read) => library.read(input, work),
     }
 }
 

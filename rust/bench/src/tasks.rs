@@ -7,7 +7,8 @@ use second::text;
 
 use crate::sides::{Task, TimedCall};
 
-const EVENTS: [usize; 3] = [8, 64, 512];
+const LONGEST: usize = 512;
+const EVENTS: [usize; 3] = [8, 64, LONGEST];
 const PROCESSES: [u8; 3] = [3, 8, 32];
 const SHAPES: [(Shape, &str); 4] = [
     (Shape::ChattyPairs, "chatty pairs"),
@@ -16,6 +17,14 @@ const SHAPES: [(Shape, &str); 4] = [
     (Shape::ManyOnTheWay, "many on the way"),
 ];
 const SEED: u64 = 2024;
+
+/// Whole sheets of each shape.
+pub fn sheets() -> Vec<Row> {
+    rows()
+        .into_iter()
+        .filter(|row| row.task.call == TimedCall::Read && row.events == LONGEST)
+        .collect()
+}
 
 /// A task with what the table says of it.
 pub struct Row {

@@ -2,25 +2,34 @@
 
 use std::time::{Duration, Instant};
 
-pub const REPETITIONS: usize = 15;
+pub const REPETITIONS: usize = 60;
 const LEAST_TIME: Duration = Duration::from_micros(500);
 
+/// Something to be timed or counted, again and again.
+pub type Run = Box<dyn FnMut()>;
+
 /// Nanoseconds of one run of each side.
-pub fn best_nanoseconds<const SIDES: usize>(sides: [&mut dyn FnMut(); SIDES]) -> [f64; SIDES] {
-    let mut timed = sides.map(|run| {
-        let runs = enough_runs(run);
-        (run, runs, Duration::MAX)
-    });
+pub fn best_nanoseconds(sides: &mut [Run]) -> Vec<f64> {
+    let mut timed: Vec<_> = sides
+        .iter_mut()
+        .map(|run| {
+            let runs = enough_runs(run);
+            (run, runs, Duration::MAX)
+        })
+        .collect();
     for _ in 0..REPETITIONS {
         for (run, runs, best) in &mut timed {
-            *best = time_of(*runs, *run).min(*best);
+            *best = time_of(*runs, run).min(*best);
         }
     }
-    timed.map(|(_, runs, best)| best.as_nanos() as f64 / f64::from(runs))
+    timed
+        .iter()
+        .map(|(_, runs, best)| best.as_nanos() as f64 / f64::from(*runs))
+        .collect()
 }
 
 /// How many runs take long enough for the clock.
-fn enough_runs(run: &mut dyn FnMut()) -> u32 {
+fn enough_runs(run: &mut Run) -> u32 {
     let mut runs = 1;
     while time_of(runs, run) < LEAST_TIME {
         runs *= 2;
@@ -28,7 +37,7 @@ fn enough_runs(run: &mut dyn FnMut()) -> u32 {
     runs
 }
 
-fn time_of(runs: u32, run: &mut dyn FnMut()) -> Duration {
+fn time_of(runs: u32, run: &mut Run) -> Duration {
     let start = Instant::now();
     for _ in 0..runs {
         run();
