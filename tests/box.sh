@@ -11,7 +11,8 @@ listing 63
 compare 17
 chain 18
 write 36
-marker 24'
+marker 24
+savings 27'
 # The refusals that the entries show. 9 and 21 can't be had: the programs' own buffers are always long enough (theorem `never-short`).
 refusals='1 2 3 4 5 6 7 8 10 11 12 13 14 15 16 18 19 20 22 30'
 

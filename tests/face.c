@@ -25,6 +25,7 @@ int main(int argc, char **argv)
     static uint16_t clocks[24], values[24], lamports[8], chain[31];
     static uint32_t masks[8];
     static uint8_t answers[8], marks[5];
+    static double percent[2];
     static const uint32_t want_masks[8] = {1, 4, 0, 3, 0, 6, 0, 0};
     static const uint16_t want_last[3] = {3, 4, 1};
     static const uint16_t want_lamports[8] = {1, 1, 2, 3, 4, 5, 4, 6};
@@ -66,6 +67,13 @@ int main(int argc, char **argv)
     expect("too few marks", packed(21, 0, 0, 0), oboefinch_mark(sheet, size, lines, 24, clocks, 24, masks, 8, values, 24, marks, 3));
     expect("the first clock after 21", 0, clocks[0]);
     expect("the marks after 21", 0, memcmp(marks, want_marks, sizeof marks) != 0);
+    percent[0] = percent[1] = 9.5;
+    expect("savings", packed(0, 1, 0, 0), oboefinch_savings(sheet, size, clocks, 24, masks, 8, values, 24, percent, 2));
+    expect("the percentage", 1, percent[0] == 50.0);
+    expect("behind the percentage", 1, percent[1] == 9.5);
+    expect("no slot for a percentage", packed(21, 0, 0, 0),
+           oboefinch_savings(sheet, size, clocks, 24, masks, 8, values, 24, NULL, 0));
+    expect("the first clock after no slot", 0, clocks[0]);
     expect("read again", packed(0, 3, 8, 6), oboefinch_read(sheet, size, clocks, 24, masks, 8, values, 24));
     expect("2 and 2", packed(0, 4, 0, 0), oboefinch_compare(3, list, 64, clocks, 24, masks, 8, values, 24, 2, 2));
     expect("order", packed(0, 1, 0, 0), oboefinch_order(clocks, 3, clocks + 21, 3));

@@ -17,6 +17,7 @@ use Rattle.paper.specs.Marking.{line-count, wrong-lines, marking-refusal, marki
 use Rattle.paper.specs.Questions.{list-refusal, comparing-refusal, comparing, chaining-refusal, chaining}
 use Rattle.paper.specs.Reading.{wrong-count, header-checks, first-refused, begins, stamps-refused, reading-refusal, reading, reading-lamport}
 use Rattle.paper.specs.Refusals.{first, Refusal, of-call, _then_, refused, outcome}
+use Rattle.paper.specs.Savings.{counting}
 use Rattle.paper.specs.Sheet.{processes-in, list-offset, list-size, list-in, stamps-in, pieces}
 use Rattle.paper.proofs.Laws.Tables.{cond-cases}
 use Rattle.paper.proofs.RoundTrip.{list-accepted}
@@ -156,10 +157,11 @@ pub record NeverShort : Type 0 where
   pub chained :
       (n : ℕ) (list : List ℕ) (a b : ℕ) (r : Refusal) → chaining n list ample a b (replicate 31 0) .0 ≡ refused r → Other (r .number)
   pub marked : (b lines : List ℕ) (r : Refusal) → marking b lines ample (replicate 200 0) .0 ≡ refused r → Other (r .number)
+  pub counted : (b : List ℕ) (r : Refusal) → counting b ample .0 ≡ refused r → Other (r .number)
   pub written : (n : ℕ) (list : List ℕ) (r : Refusal) → write-answer n list ≡ refused r → Other (r .number)
 
 pub never-short : NeverShort
-unfolding class reading comparing chaining marking write-answer
+unfolding class reading comparing chaining marking counting write-answer
 never-short =
     record {
       classed = λ n list r. outcome-other _ _ (class-other n list) r;
@@ -168,5 +170,6 @@ never-short =
       compared = λ n list a b r. outcome-other _ _ (comparing-other n list a b) r;
       chained = λ n list a b r. outcome-other _ _ (chaining-other n list a b) r;
       marked = λ b lines r. outcome-other _ _ (marking-other b lines (replicate 200 0) (omega (arith, length-replicate {A = ℕ} 200 0))) r;
+      counted = λ b r. outcome-other _ _ (reading-other b) r;
       written = λ n list r. outcome-other _ _ (write-other n list) r;
     }

@@ -6,6 +6,7 @@ ghost use Rattle.lines.specs.Text.{Printed};
 ghost use Rattle.lines.specs.Slots.{listing-text, listing-lamport-text};
 ghost use Rattle.lines.specs.Programs.{verdict-line, chain-text, class-text};
 ghost use Rattle.lines.specs.Marker.{marker-text};
+ghost use Rattle.lines.specs.Savings.{no-messages-line, saved-line};
 
 mod event;
 mod listing;
@@ -111,4 +112,22 @@ pub fn marker_text(marks: &[u8], total: usize, len: usize, out: &mut [u8]) -> us
     }
     let k = marker::put_marks(out, marks, len);
     marker::put_total(out, k, total, len)
+}
+
+// The line of a sheet without messages.
+pub fn no_messages_text(out: &mut [u8]) -> usize
+    ensures { λ r. ⌜ Printed (now (out .entry)) no-messages-line r (now (out .exit)) ⌝ }
+{
+    text::put_bytes(out, 0, b"no messages\n")
+}
+
+// The line of a percentage, which is told by its whole hundredths.
+pub fn saved_text(hundredths: usize, out: &mut [u8]) -> usize
+    ensures { λ r. ⌜ Printed (now (out .entry)) (saved-line hundredths) r (now (out .exit)) ⌝ }
+{
+    let a = text::put_named(out, 0, b"saved", hundredths / 100);
+    let b = text::put(out, a, b'.');
+    let c = text::put(out, b, text::digit(hundredths / 10 % 10));
+    let d = text::put(out, c, text::digit(hundredths % 10));
+    text::put(out, d, b'\n')
 }

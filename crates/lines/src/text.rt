@@ -29,7 +29,7 @@ pub(crate) fn put_bytes(out: &mut [u8], at: usize, bytes: &[u8]) -> usize
     k
 }
 
-fn digit(d: usize) -> u8
+pub(crate) fn digit(d: usize) -> u8
     requires { ⌜ d < 10 ⌝ }
     ensures { λ r. ⌜ r ≡ 48 + d ⌝ }
 {

@@ -5,7 +5,7 @@ use mathlib.Core.Path.{_≡_, refl, sym, ap, ap₂, _∙_, subst₂}
 use mathlib.Core.Bool.{Bool, true, false, cond, _&&_, not}
 use mathlib.Core.List.{List}
 use lib.Dec.{eqb, ltb}
-use lib.ListN.{length, take, drop, length-take, length-drop}
+use lib.ListN.{length}
 use lib.Seq.{sets}
 use borrow.Author.Tests.{ltb-true, ltb-false, lt-ltb, le-ltb, ne-eqb}
 use Rattle.paper.specs.Buffers.{Work, laid, written-to}
@@ -15,25 +15,18 @@ use Rattle.paper.specs.Order.{verdict}
 use Rattle.paper.specs.Questions.{judged}
 use Rattle.paper.specs.Reading.{Read, read-of, reading-refusal, reading}
 use Rattle.paper.specs.Refusals.{Refusal, of-call, Outcome, refused, done}
-use Rattle.paper.specs.Sheet.{Sheet, processes-in, list-offset, list-size, list-in}
+use Rattle.paper.specs.Sheet.{processes-in, list-size, list-in}
 use Rattle.paper.specs.Stamp.{count, upto}
 use Rattle.paper.proofs.Laws.Masks.{length-upto}
 use Rattle.paper.proofs.Laws.Refused.{after-done}
 use Rattle.paper.proofs.Laws.Stores.{laid-front}
-use Rattle.paper.proofs.ReadExactly.{reading-number, reading-done}
-use Rattle.paper.proofs.RoundTrip.{list-accepted}
-use Rattle.paper.proofs.Sheets.Checks.{not-below, equal, neither, Room}
-use Rattle.paper.proofs.Sheets.Layout.{Given}
+use Rattle.paper.proofs.Sheets.Checks.{not-below, equal, neither}
 use Rattle.course.specs.Said.{late, of-list}
 use Rattle.course.proofs.Passed.{is-refused, Passed, late-cleared}
 use Rattle.order.specs.Stands.{Stands, row}
-use Rattle.order.proofs.Asked.{passed-stands}
+use Rattle.order.proofs.OfSheet.{unrefused, sheet-passed, sheet-stands, same-count, same-size}
 use Rattle.order.proofs.Rows.{verdict-rows}
 use Rattle.marks.specs.Rows.{Slots, row-right, row-marks, row-total, judging}
-
--- What is read stands in the sheet b from the place `at` on.
-abbrev pub found : List ℕ → ℕ → ℕ → ℕ → ℕ → Read
-found b n at size carried = record { processes = n; list = take size (drop at b); carried = carried }
 
 -- A line is right by the rows exactly where it is right on the events.
 right-rows :
@@ -81,43 +74,20 @@ module _ (b lines : List ℕ) (w : Work) (out : List ℕ) where
       abbrev m : ℕ
       m = how-many list
 
-      none : (reading-refusal b w .number ≡ 0) × (read-of n list ≡ a)
-      none = reading-done b w a .0 (sym (ap (λ (x : Outcome Read × Work). x .0) h))
-
-      accepted : Sheet b n list × Room n m w
-      accepted = reading-number b w .0 (none .0)
+      none : reading-refusal b w .number ≡ 0
+      none = unrefused b w w′ a h .0
 
       passed : Passed n list w w′
-      unfolding reading
-      passed =
-          let (sheet, roomy) = accepted in
-          let given : Given n list =
-          record { processes = (sheet .processes .1, sheet .processes .2); whole-records = sheet .whole-records; accepted = sheet .accepted } in
-          record {
-            none = list-accepted n list w .1 (given, roomy);
-            given = given;
-            room = roomy;
-            is = ap (λ (x : Outcome Read × Work). x .1) h ∙ after-done _ _ _ _ _ (none .0);
-          }
+      passed = sheet-passed b w w′ a h
 
       stands : Stands n list (w′ .clocks)
-      stands = passed-stands n list w w′ passed
-
-      same-count : n ≡ a .processes
-      unfolding read-of
-      same-count = ap (λ (r : Read). r .processes) (none .1)
-
-      same-size : (size : ℕ) → size ≡ list-size b → m ≡ size / 8
-      same-size size e =
-          let inside = accepted .0 .events-there .inside in
-          let l : length list ≡ size = omega (arith, length-take (list-size b) (drop (list-offset b) b), length-drop (list-offset b) b) in
-          ap (λ (k : ℕ). k / 8) l
+      stands = sheet-stands b w w′ a h
 
       late-is : ltb (length out) (line-count lines) ≡ true → (refused (of-call 21), late n m w′, out) ≡ marking b lines w out
       unfolding marking marking-refusal written-to
       late-is t =
           let x = late-cleared n list w w′ passed 21 (omega arith) in
-          rw (whole, none .0, t) (λ i. (refused (of-call 21), x i, out))
+          rw (whole, none, t) (λ i. (refused (of-call 21), x i, out))
 
       done-is :
           ltb (length out) (line-count lines) ≡ false
@@ -136,7 +106,7 @@ module _ (b lines : List ℕ) (w : Work) (out : List ℕ) where
           (λ i. sets out 0 (upto (λ j. cond (right j i) 1 0) k))
           ∙ laid-front ms out (omega (arith, length-upto (mark n cs lines) k, ltb-false (length out) k t)) in
           let y = passed .is in
-          rw (whole, none .0, t, after-done 0 n m cs w refl) (λ i. (done (record { total = f i; lines = k }), y i, g i))
+          rw (whole, none, t, after-done 0 n m cs w refl) (λ i. (done (record { total = f i; lines = k }), y i, g i))
 
       judging-is : judging n m lines w′ out ≡ marking b lines w out
       judging-is = go (ltb (length out) (line-count lines)) refl
@@ -155,11 +125,11 @@ module _ (b lines : List ℕ) (w : Work) (out : List ℕ) where
       module _ (size : ℕ) (e : size ≡ list-size b) where
         pub slots-ready : Slots (a .processes) (size / 8) (w′ .clocks)
         slots-ready =
-            subst₂ (λ (x y : ℕ). Slots x y (w′ .clocks)) same-count (same-size size e)
+            subst₂ (λ (x y : ℕ). Slots x y (w′ .clocks)) (same-count b w w′ a h) (same-size b w w′ a h size e)
             (let s = stands in record { some = s .some; few = s .few; brief = s .brief; long = s .slots })
 
         pub mark-judged : (x : Outcome Marked × Work × List ℕ) → x ≡ judging (a .processes) (size / 8) lines w′ out → x ≡ marking b lines w out
-        mark-judged x y = y ∙ sym (ap₂ (λ (i j : ℕ). judging i j lines w′ out) same-count (same-size size e)) ∙ judging-is
+        mark-judged x y = y ∙ sym (ap₂ (λ (i j : ℕ). judging i j lines w′ out) (same-count b w w′ a h) (same-size b w w′ a h size e)) ∙ judging-is
 
 -- What is left to do, in its two cases.
 module _ (n m : ℕ) (lines : List ℕ) (w : Work) (out : List ℕ) where

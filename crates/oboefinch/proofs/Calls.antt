@@ -7,6 +7,7 @@ use mathlib.Core.Logic.{_⊎_, inl, inr}
 use mathlib.Core.Bool.{Bool, _||_, not}
 use mathlib.Core.List.{List}
 use lib.Dec.{eqb, ltb}
+use lib.Ieee.{Float}
 use lib.ListN.{length, drop, length-append, length-take}
 use Rattle.paper.specs.Buffers.{Work, short, entries}
 use Rattle.paper.specs.Bytes.{two-bytes, four-bytes, text}
@@ -21,6 +22,7 @@ use Rattle.paper.specs.Questions.{ordering, list-refusal, comparing, comparing-
 use Rattle.paper.specs.Questions.{writing-refusal, writing}
 use Rattle.paper.specs.Reading.{wrong-count, header-checks, first-refused, read-of, reading-refusal, reading, reading-lamport}
 use Rattle.paper.specs.Refusals.{first, of-call, refused}
+use Rattle.paper.specs.Savings.{counts, Saving, no-messages, percent, saving, storing-refusal, storing}
 use Rattle.paper.specs.Sheet.{processes-in, list-offset, list-size, list-in, stamps-in, piece, pieces, stamps-part, header, written}
 use Rattle.paper.specs.Stamp.{stamps}
 use Rattle.paper.proofs.Laws.Masks.{count-le}
@@ -37,7 +39,7 @@ use Rattle.paper.proofs.TotalRight.{marking-number}
 use Rattle.paper.proofs.Verdicts.{verdict-right}
 use Rattle.sheet.proofs.WithNumbers.{nine-or-plain}
 use Rattle.marks.proofs.Judged.{short-lines}
-use Rattle.oboefinch.specs.Packed.{read-fields, class-fields, write-fields, verdict-fields, chain-fields, mark-fields, fields}
+use Rattle.oboefinch.specs.Packed.{read-fields, class-fields, write-fields, verdict-fields, chain-fields, mark-fields, saving-fields, fields}
 use Rattle.oboefinch.proofs.Refusals.{Mild, capped, call-mild, then-mild, mild-small, events-mild, stamps-mild, zip-few}
 use Rattle.oboefinch.proofs.Small.{Small, outcome-small}
 
@@ -57,6 +59,10 @@ ordering-small v w =
     outcome-small verdict-fields (of-call _) _
     (mild-small _ (call-mild (first (wrong-count (length v) || wrong-count (length w) || not (eqb (length v) (length w))) 4 0) (simp capped)))
     (λ h. verdict-small (length v) v w)
+
+saving-small : (s : Saving) → Small (saving-fields s)
+saving-small no-messages = record { number = omega arith; x = omega arith; y = omega arith; z = omega arith }
+saving-small (percent p) = record { number = omega arith; x = omega arith; y = omega arith; z = omega arith }
 
 -- How many events a list has accepted, and how many values their stamps carry.
 record Few (n : ℕ) (list : List ℕ) : Type 0 where
@@ -198,3 +204,11 @@ module _ (b : List ℕ) (w : Work) where
       let short = short-lines lines (marking-number b lines w out .0 h .0) in
       let few = count-le (λ j. is-right processes (clocked processes start events) (line-at lines j)) (line-count lines) in
       record { number = omega arith; x = omega arith; y = omega arith; z = omega arith })
+
+  -- As reading, 21; the two cases of a saving.
+  pub storing-small : (out : List Float) → Small (fields saving-fields (storing b w out .0))
+  unfolding storing storing-refusal
+  storing-small out =
+      outcome-small saving-fields (storing-refusal b w out) _
+      (mild-small _ (then-mild (reading-refusal b w) _ reading-mild (λ h. call-mild (first (ltb (length out) 1) 21 0) (simp capped))))
+      (λ h. saving-small (saving (counts processes (clocked processes start events))))

@@ -21,9 +21,9 @@ module _ {A : Type 0} (told : A → Fields) (p o : Outcome A) (case : p ≡ o) w
     pub answer-work : (k : ℕ) → k ≡ answered told o → (k, w) ≡ with-work told r
     answer-work k h = ap (λ (j : ℕ). (j, w)) (h ∙ ap (answered told) (sym case)) ∙ ap (with-work told) e
 
-  module _ (w : Work) (out : List ℕ) (r : Outcome A × Work × List ℕ) (e : (p, w, out) ≡ r) where
+  module _ {B : Type 0} (w : Work) (out : B) (r : Outcome A × Work × B) (e : (p, w, out) ≡ r) where
     pub small-output : Small (fields told (r .0)) → Small (fields told o)
-    small-output s = small-alone (r .0) (ap (λ (q : Outcome A × Work × List ℕ). q .0) e) s
+    small-output s = small-alone (r .0) (ap (λ (q : Outcome A × Work × B). q .0) e) s
 
     pub answer-output : (k : ℕ) → k ≡ answered told o → (k, w, out) ≡ with-output told r
     answer-output k h = ap (λ (j : ℕ). (j, w, out)) (h ∙ ap (answered told) (sym case)) ∙ ap (with-output told) e

@@ -1,13 +1,15 @@
 -- `unpacked`: from the number of every call, whatever is lent, each field of its outcome can be read back.
 use Prim.Native.Nat.{ℕ}
 use mathlib.Core.List.{List}
+use lib.Ieee.{Float}
 use Rattle.paper.specs.Buffers.{Work}
 use Rattle.paper.specs.Class.{class, class-lamport}
 use Rattle.paper.specs.Marking.{marking}
 use Rattle.paper.specs.Questions.{ordering, comparing, chaining, writing}
 use Rattle.paper.specs.Reading.{reading, reading-lamport}
-use Rattle.oboefinch.specs.Packed.{read-fields, class-fields, write-fields, verdict-fields, chain-fields, mark-fields, fields}
-use Rattle.oboefinch.proofs.Calls.{reading-small, reading-lamport-small, class-small, class-lamport-small, writing-small, comparing-small, chaining-small, marking-small, ordering-small}
+use Rattle.paper.specs.Savings.{storing}
+use Rattle.oboefinch.specs.Packed.{read-fields, class-fields, write-fields, verdict-fields, chain-fields, mark-fields, saving-fields, fields}
+use Rattle.oboefinch.proofs.Calls.{reading-small, reading-lamport-small, class-small, class-lamport-small, writing-small, comparing-small, chaining-small, marking-small, storing-small, ordering-small}
 use Rattle.oboefinch.proofs.Small.{ReadBack, read-back}
 
 pub record Unpacked : Type 0 where
@@ -20,6 +22,7 @@ pub record Unpacked : Type 0 where
   pub compared : (n : ℕ) (list : List ℕ) (w : Work) (a b : ℕ) → ReadBack (fields verdict-fields (comparing n list w a b .0))
   pub chained : (n : ℕ) (list : List ℕ) (w : Work) (a b : ℕ) (out : List ℕ) → ReadBack (fields chain-fields (chaining n list w a b out .0))
   pub marked : (b lines : List ℕ) (w : Work) (out : List ℕ) → ReadBack (fields mark-fields (marking b lines w out .0))
+  pub saved : (b : List ℕ) (w : Work) (out : List Float) → ReadBack (fields saving-fields (storing b w out .0))
   pub ordered : (v w : List ℕ) → ReadBack (fields verdict-fields (ordering v w))
 
 pub unpacked : Unpacked
@@ -33,5 +36,6 @@ unpacked =
       compared = λ n list w a b. read-back _ (comparing-small n list w a b);
       chained = λ n list w a b out. read-back _ (chaining-small n list w a b out);
       marked = λ b lines w out. read-back _ (marking-small b w lines out);
+      saved = λ b w out. read-back _ (storing-small b w out);
       ordered = λ v w. read-back _ (ordering-small v w);
     }

@@ -8,6 +8,7 @@ use Rattle.paper.specs.Marking.{Marked}
 use Rattle.paper.specs.Questions.{Written}
 use Rattle.paper.specs.Reading.{Read}
 use Rattle.paper.specs.Refusals.{Refusal, Outcome, refused, done}
+use Rattle.paper.specs.Savings.{Saving, no-messages, percent}
 
 pub record Fields : Type 0 where
   pub number : ℕ
@@ -46,6 +47,11 @@ chain-fields k = record { number = 0; x = 0; y = 0; z = k }
 abbrev pub mark-fields : Marked → Fields
 mark-fields a = record { number = 0; x = 0; y = a .total; z = a .lines }
 
+-- The saving: whether there is a percentage.
+abbrev pub saving-fields : Saving → Fields
+saving-fields no-messages = record { number = 0; x = 0; y = 0; z = 0 }
+saving-fields (percent p) = record { number = 0; x = 1; y = 0; z = 0 }
+
 -- The fields of what a call gives, where `told` has those of its answer.
 abbrev pub fields : {A : Type 0} → (A → Fields) → Outcome A → Fields
 fields told (refused r) = refusal-fields r
@@ -58,7 +64,7 @@ answered told o = packed (fields told o)
 abbrev pub with-work : {A : Type 0} → (A → Fields) → Outcome A × Work → ℕ × Work
 with-work told r = (answered told (r .0), r .1)
 
-abbrev pub with-output : {A : Type 0} → (A → Fields) → Outcome A × Work × List ℕ → ℕ × Work × List ℕ
+abbrev pub with-output : {A B : Type 0} → (A → Fields) → Outcome A × Work × B → ℕ × Work × B
 with-output told r = (answered told (r .0), r .1, r .2)
 
 -- The same with the Lamport numbers' slots behind.

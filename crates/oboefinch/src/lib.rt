@@ -6,8 +6,9 @@ ghost use Rattle.paper.specs.Class as paper;
 ghost use Rattle.paper.specs.Marking.{marking};
 ghost use Rattle.paper.specs.Questions.{ordering, comparing, chaining, writing};
 ghost use Rattle.paper.specs.Reading.{reading, reading-lamport};
+ghost use Rattle.paper.specs.Savings.{storing};
 ghost use Rattle.course.specs.Said.{work};
-ghost use Rattle.oboefinch.specs.Packed.{read-fields, class-fields, write-fields, verdict-fields, chain-fields, mark-fields};
+ghost use Rattle.oboefinch.specs.Packed.{read-fields, class-fields, write-fields, verdict-fields, chain-fields, mark-fields, saving-fields};
 ghost use Rattle.oboefinch.specs.Packed.{answered, with-work, with-output, with-numbers};
 use clock::Ordered;
 use clock::Position;
@@ -15,6 +16,7 @@ use course::Classed;
 use marks::Marked;
 use order::Chained;
 use order::Compared;
+use saving::Saved;
 use sheet::Reading;
 use writer::Wrote;
 
@@ -180,6 +182,25 @@ pub extern "C" fn oboefinch_mark(
     match marks::mark(sheet, lines, clocks, masks, values, marks) {
         Marked::Refused(r) => pack::refusal(r),
         Marked::Done(total, count) => pack::fields(0, 0, total, count),
+    }
+}
+
+// What the short stamps of a sheet saved.
+#[no_mangle]
+pub extern "C" fn oboefinch_savings(
+    sheet: &[u8],
+    clocks: &mut [u16],
+    masks: &mut [u32],
+    values: &mut [u16],
+    percent: &mut [f64],
+) -> u64
+    ensures { λ r. ⌜ (r, work (now (clocks .exit)) (now (masks .exit)) (now (values .exit)), now (percent .exit))
+        ≡ with-output saving-fields
+        (storing (now (sheet .entry)) (work (now (clocks .entry)) (now (masks .entry)) (now (values .entry))) (now (percent .entry))) ⌝ }
+{
+    match saving::store(sheet, clocks, masks, values, percent) {
+        Saved::Refused(r) => pack::refusal(r),
+        Saved::Told(s) => pack::saving(s),
     }
 }
 

@@ -2,9 +2,11 @@
 ghost use mathlib.Core.Path.{_≡_};
 ghost use Prim.Native.Nat.{_<_};
 ghost use Rattle.clock.specs.Said as said;
-ghost use Rattle.oboefinch.specs.Packed.{packed, refusal-fields, verdict-fields};
+ghost use Rattle.oboefinch.specs.Packed.{packed, refusal-fields, verdict-fields, saving-fields};
+ghost use Rattle.saving.specs.Said as saving-said;
 use clock::Refusal;
 use clock::Verdict;
+use saving::Saving;
 
 pub(crate) fn fields(number: u8, x: usize, y: usize, z: usize) -> u64
     requires { ⌜ (x < 256) × (y < 65536) × (z < 65536) ⌝ }
@@ -24,4 +26,13 @@ pub(crate) fn verdict(v: Verdict) -> u64
     ensures { λ a. ⌜ a ≡ packed (verdict-fields (said.number v)) ⌝ }
 {
     fields(0, v.number(), 0, 0)
+}
+
+pub(crate) fn saving(s: Saving) -> u64
+    ensures { λ a. ⌜ a ≡ packed (saving-fields (saving-said.saving s)) ⌝ }
+{
+    match s {
+        Saving::NoMessages => fields(0, 0, 0, 0),
+        Saving::Percent(_) => fields(0, 1, 0, 0),
+    }
 }

@@ -12,6 +12,8 @@ pub mod MergeFirst
 pub mod Verdicts
 pub mod SameExactly
 pub mod TotalRight
+pub mod SavedRight
+pub mod NearestRight
 pub mod ChainRight
 pub mod ChainRoom
 pub mod Sheets
@@ -22,4 +24,5 @@ pub mod StampSays
 pub mod Lent
 pub mod Settled
 pub mod PupilA
+pub mod SavedA
 pub mod OneOutcome

@@ -26,10 +26,11 @@ pub enum Call {
     Compare,
     Chain,
     Mark,
+    Savings,
     Order,
 }
 
-pub const ALL_CALLS: [Call; 9] = [
+pub const ALL_CALLS: [Call; 10] = [
     Call::Read,
     Call::ReadLamport,
     Call::Class,
@@ -38,6 +39,7 @@ pub const ALL_CALLS: [Call; 9] = [
     Call::Compare,
     Call::Chain,
     Call::Mark,
+    Call::Savings,
     Call::Order,
 ];
 
@@ -53,7 +55,7 @@ pub struct Case {
     pub work: WorkLengths,
     /// Slots lent for the Lamport numbers.
     pub lamports: usize,
-    /// Slots lent for the answers of class mode, for the written sheet, for the chain, or for the marks.
+    /// Slots lent for the answers of class mode, for the written sheet, for the chain, for the marks, or for the percentage.
     pub output: usize,
     pub positions: (usize, usize),
     pub clocks: (Vec<u16>, Vec<u16>),
@@ -62,7 +64,7 @@ pub struct Case {
 /// The case of a seed; the same seed always gives the same case.
 pub fn case_of(seed: u64) -> Case {
     let mut random = Random::new(seed);
-    match random.below(35) {
+    match random.below(40) {
         0..=6 => readings::case(&mut random),
         7..=10 => lists::class_case(&mut random),
         11..=13 => lists::write_case(&mut random),
@@ -71,6 +73,7 @@ pub fn case_of(seed: u64) -> Case {
         19..=24 => readings::lamport_case(&mut random),
         25..=29 => lists::class_lamport_case(&mut random),
         30..=33 => pupils::case(&mut random),
+        34..=38 => readings::savings_case(&mut random),
         _ => orders::case(&mut random),
     }
 }

@@ -38,6 +38,17 @@ pub fn lamport_case(random: &mut Random) -> Case {
     }
 }
 
+pub fn savings_case(random: &mut Random) -> Case {
+    let lent = some_sheet(random);
+    Case {
+        call: Call::Savings,
+        work: WorkLengths::chosen(lent.needed, random),
+        output: chosen_length(1, random),
+        input: lent.sheet,
+        ..Case::default()
+    }
+}
+
 pub fn some_sheet(random: &mut Random) -> LentSheet {
     if random.one_in(25) {
         return garbage(random);

@@ -18,15 +18,17 @@ pub struct Desk {
     /// The answers of class mode, the written sheet, or the marks.
     bytes: Lent<u8>,
     chain: Lent<u16>,
+    percent: Lent<f64>,
     first_clock: Lent<u16>,
     second_clock: Lent<u16>,
 }
 
 impl Desk {
     pub fn for_case(case: &Case, around: u64) -> Self {
-        let (bytes, chain) = match case.call {
-            Call::Chain => (0, case.output),
-            _ => (case.output, 0),
+        let (bytes, chain, percent) = match case.call {
+            Call::Chain => (0, case.output, 0),
+            Call::Savings => (0, 0, case.output),
+            _ => (case.output, 0, 0),
         };
         Desk {
             input: Lent::holding(&case.input, around),
@@ -37,6 +39,7 @@ impl Desk {
             lamports: Lent::unwritten(case.lamports, around),
             bytes: Lent::unwritten(bytes, around),
             chain: Lent::unwritten(chain, around),
+            percent: Lent::unwritten(percent, around),
             first_clock: Lent::holding(&case.clocks.0, around),
             second_clock: Lent::holding(&case.clocks.1, around),
         }
@@ -70,6 +73,7 @@ impl Desk {
                 let lines = self.lines.contents();
                 raw::mark(input, lines, clocks, masks, values, self.bytes.lend())
             }
+            Call::Savings => raw::savings(input, clocks, masks, values, self.percent.lend()),
             Call::Order => raw::order(self.first_clock.contents(), self.second_clock.contents()),
         }
     }
@@ -96,6 +100,7 @@ impl Desk {
             Call::Compare => packed::compare(n, input, work, first, second),
             Call::Chain => packed::chain(n, input, work, first, second, self.chain.lend()),
             Call::Mark => packed::mark(input, self.lines.contents(), work, self.bytes.lend()),
+            Call::Savings => packed::savings(input, work, self.percent.lend()),
             Call::Order => packed::order(self.first_clock.contents(), self.second_clock.contents()),
         }
     }
@@ -118,6 +123,7 @@ impl Desk {
             (self.lamports.guards_hold(), "lamports"),
             (self.bytes.guards_hold(), "answers, sheet or marks"),
             (self.chain.guards_hold(), "chain"),
+            (self.percent.guards_hold(), "percent"),
             (self.first_clock.guards_hold(), "first clock"),
             (self.second_clock.guards_hold(), "second clock"),
         ];
@@ -145,6 +151,7 @@ impl Desk {
                 self.bytes.first_difference(&second.bytes),
             ),
             ("chain", self.chain.first_difference(&second.chain)),
+            ("percent", self.percent.first_difference(&second.percent)),
         ];
         for (buffer, difference) in differences {
             if let Some(difference) = difference {

@@ -30,6 +30,13 @@ impl Slot for u32 {
     }
 }
 
+/// Whole and finite, so that equal slots are equal bit by bit.
+impl Slot for f64 {
+    fn cut_from(number: u64) -> Self {
+        number as u32 as f64
+    }
+}
+
 pub struct Lent<T> {
     cells: Vec<T>,
     range: Range<usize>,

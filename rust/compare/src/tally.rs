@@ -20,6 +20,8 @@ pub enum Seen {
     /// The mark of one line.
     Mark(u8),
     Lines(usize),
+    /// 0 no messages, 1 a percentage.
+    Saving(usize),
     MostEvents(Call),
     MostProcesses(Call),
 }
@@ -56,6 +58,7 @@ impl Tally {
             Call::Chain => self.count(Seen::ChainLength(answer.z.min(LONGEST_TOLD_CHAIN))),
             Call::Class | Call::ClassLamport => self.add_offers(case, agreed),
             Call::Mark => self.add_marks(agreed, answer),
+            Call::Savings => self.count(Seen::Saving(answer.x)),
             Call::Read | Call::ReadLamport | Call::Write => {}
         }
         if COUNTING_EVENTS.contains(&call) && answer.y == MOST_EVENTS {
@@ -107,6 +110,7 @@ impl Tally {
         }
         wanted.extend([Seen::Mark(0), Seen::Mark(1)]);
         wanted.extend([Seen::Lines(0), Seen::Lines(MOST_LINES)]);
+        wanted.extend([Seen::Saving(0), Seen::Saving(1)]);
         wanted.extend((0..=LONGEST_TOLD_CHAIN).map(Seen::ChainLength));
         for call in COUNTING_EVENTS {
             wanted.push(Seen::MostEvents(call));
@@ -136,6 +140,9 @@ fn numbers_of(call: Call) -> &'static [u8] {
         Call::Chain => &[0, 4, 8, 9, 10, 11, 12, 13, 14, 15, 16, 20, 21, 22],
         Call::Mark => &[
             0, 1, 2, 3, 4, 5, 6, 7, 9, 10, 11, 12, 13, 14, 15, 16, 18, 19, 21, 30,
+        ],
+        Call::Savings => &[
+            0, 1, 2, 3, 4, 5, 6, 7, 9, 10, 11, 12, 13, 14, 15, 16, 18, 19, 21,
         ],
         Call::Order => &[0, 4],
     }

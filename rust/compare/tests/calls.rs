@@ -64,6 +64,7 @@ fn call_of(name: &str) -> Call {
         "compare" => Call::Compare,
         "chain" => Call::Chain,
         "mark" => Call::Mark,
+        "savings" => Call::Savings,
         _ => panic!("no such call: {name}"),
     }
 }

@@ -5,7 +5,7 @@ use cases::random::seed_of_case;
 use compare::{run, Tally};
 
 const RUNS: u64 = 6;
-const CASES_OF_A_RUN: u64 = 35_000;
+const CASES_OF_A_RUN: u64 = 40_000;
 const SEEN_AT_LEAST: usize = 60;
 
 fn agree_on_run(run_seed: u64, tally: &mut Tally) {

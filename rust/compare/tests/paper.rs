@@ -4,7 +4,8 @@ use cases::lengths::WorkLengths;
 use cases::{Call, Case, ALL_CALLS};
 use compare::run;
 use oboefinch::{
-    chain, class, class_lamport, compare, mark, order, read, read_lamport, write, Refusal, Verdict,
+    chain, class, class_lamport, compare, mark, order, read, read_lamport, savings, write, Refusal,
+    Verdict,
 };
 use second::event::{list_of, Event};
 use second::examples::{
@@ -14,7 +15,7 @@ use second::marking::{bytes_of, Line};
 use second::sheet::{compose, header_bytes};
 use second::text;
 
-const LENT_A_SHEET: [Call; 3] = [Call::Read, Call::ReadLamport, Call::Mark];
+const LENT_A_SHEET: [Call; 4] = [Call::Read, Call::ReadLamport, Call::Mark, Call::Savings];
 
 fn refusal(number: u8, position: u16) -> Refusal {
     Refusal { number, position }
@@ -188,7 +189,7 @@ fn every_verdict_on((first, second): (usize, usize)) -> Vec<Line> {
 
 fn case_of_a(call: Call, positions: (usize, usize)) -> Case {
     let input = match call {
-        Call::Read | Call::ReadLamport | Call::Mark => SHEET_A.to_vec(),
+        _ if LENT_A_SHEET.contains(&call) => SHEET_A.to_vec(),
         _ => list_a().to_vec(),
     };
     Case {
@@ -278,6 +279,39 @@ fn both_sides_agree_on_pupils_lists_of_every_length() {
 fn both_sides_agree_on_every_room_for_marks() {
     for room in 0..12 {
         let mut case = case_of_a(Call::Mark, (1, 7));
+        case.output = room;
+        agree(&case);
+    }
+}
+
+#[test]
+fn sheet_a_saves_50_percent() {
+    assert_eq!(savings(SHEET_A), Ok(Some(50.0)));
+    assert_eq!(text::savings(SHEET_A).output, b"saved 50.00\n");
+    assert_eq!(savings(&SHEET_A[..23]), Err(refusal(1, 0)));
+}
+
+/// 2 of 3 values are left out, and 200 / 3 is no double.
+#[test]
+fn a_message_that_is_never_received_counts() {
+    let sheet = write(3, &list_of(&[Event::send(0, 1, 1)])).unwrap().sheet;
+    assert_eq!(savings(&sheet), Ok(Some(200.0 / 3.0)));
+    assert_eq!(text::savings(&sheet).output, b"saved 66.66\n");
+}
+
+#[test]
+fn a_sheet_without_sends_has_no_messages() {
+    for events in [vec![], vec![Event::internal(0), Event::internal(1)]] {
+        let sheet = write(2, &list_of(&events)).unwrap().sheet;
+        assert_eq!(savings(&sheet), Ok(None));
+        assert_eq!(text::savings(&sheet).output, b"no messages\n");
+    }
+}
+
+#[test]
+fn both_sides_agree_on_every_room_for_the_percentage() {
+    for room in 0..4 {
+        let mut case = case_of_a(Call::Savings, (0, 0));
         case.output = room;
         agree(&case);
     }

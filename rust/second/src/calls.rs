@@ -5,6 +5,7 @@ use crate::event::{MOST_LIST_BYTES, RECORD_SIZE};
 use crate::judge::{carried_values, each_offer, only_accepted, whole_list};
 use crate::machine::Accepted;
 use crate::marking::{lines_of, marks_of, total};
+use crate::saving::Counts;
 use crate::sheet::{compose, judge_parts, stamp_bytes, Header};
 use crate::{questions, Check, Refusal};
 
@@ -222,6 +223,18 @@ pub fn mark(
         total: total(&marks),
         lines: lines.len(),
     })
+}
+
+/// As in reading, then 21 "where `percent` has no slot, whichever it would be"; no percentage where there are no messages.
+pub fn savings(sheet: &[u8], mut work: Work, percent: &mut [f64]) -> Result<Option<f64>, Refusal> {
+    let (n, accepted) = judge_lent_sheet(sheet, &mut work)?;
+    let slot = percent
+        .first_mut()
+        .ok_or(Check::OutputLength.of_no_event())?;
+    let saved = Counts::of(n, &accepted).percent();
+    *slot = saved.unwrap_or(*slot);
+    work.fill(n, &accepted);
+    Ok(saved)
 }
 
 /// "Comparing two lent clocks: 4 only."

@@ -13,6 +13,7 @@ pub mod marking;
 pub mod packed;
 pub mod questions;
 pub mod refusal;
+pub mod saving;
 pub mod sheet;
 pub mod stamp;
 pub mod text;

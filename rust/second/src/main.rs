@@ -1,4 +1,4 @@
-//! The six programs of the second program: `second PROGRAM [ARGUMENT...]`, sheet or list on standard input.
+//! The seven programs of the second program: `second PROGRAM [ARGUMENT...]`, sheet or list on standard input.
 
 use std::io::{Read, Write};
 use std::process::ExitCode;
@@ -16,7 +16,7 @@ fn main() -> ExitCode {
         return ExitCode::FAILURE;
     }
     let Some(printed) = run(&words, &input) else {
-        eprintln!("usage: second listing|compare|chain|class|write|marker [ARGUMENT...]");
+        eprintln!("usage: second listing|compare|chain|class|write|marker|savings [ARGUMENT...]");
         return ExitCode::FAILURE;
     };
     let out = std::io::stdout().write_all(&printed.output);
@@ -36,6 +36,7 @@ fn run(words: &[&str], input: &[u8]) -> Option<Printed> {
         "class" => Some(text::class(arguments, input)),
         "write" => Some(text::write(arguments, input)),
         "marker" => Some(text::marker(first_file(arguments).as_deref(), input)),
+        "savings" => Some(text::savings(input)),
         _ => None,
     }
 }

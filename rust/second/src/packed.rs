@@ -60,6 +60,13 @@ pub fn mark(sheet: &[u8], list: &[u8], work: Work, output: &mut [u8]) -> u64 {
     }
 }
 
+pub fn savings(sheet: &[u8], work: Work, percent: &mut [f64]) -> u64 {
+    match calls::savings(sheet, work, percent) {
+        Ok(saved) => pack(0, usize::from(saved.is_some()), 0, 0),
+        Err(refusal) => refused(refusal),
+    }
+}
+
 pub fn order(first: &[u16], second: &[u16]) -> u64 {
     match calls::order(first, second) {
         Ok(verdict) => pack(0, verdict as usize, 0, 0),

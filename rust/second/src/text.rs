@@ -1,10 +1,11 @@
-//! What the six programs print, given their arguments and standard input.
+//! What the seven programs print, given their arguments and standard input.
 
 use crate::calls::count_lent_events;
 use crate::event::{RECEIVE, SEND};
 use crate::judge::{carried_values, each_offer, only_accepted, whole_list};
 use crate::machine::Accepted;
 use crate::marking::{lines_of, marks_of, total};
+use crate::saving::Counts;
 use crate::sheet::{compose, judge_parts, stamp_bytes, Header};
 use crate::{questions, Check, Refusal};
 
@@ -76,6 +77,14 @@ pub fn marker(list: Option<&[u8]>, input: &[u8]) -> Printed {
         Ok(marks_of(&lines, &accepted))
     });
     text_or_refusal(marks.map(|marks| marks_text(&marks)))
+}
+
+pub fn savings(input: &[u8]) -> Printed {
+    let counts = read_sheet(input).map(|(n, accepted)| Counts::of(n, &accepted));
+    text_or_refusal(counts.map(|counts| match counts.hundredths() {
+        None => "no messages\n".to_string(),
+        Some(hundredths) => format!("saved {}.{:02}\n", hundredths / 100, hundredths % 100),
+    }))
 }
 
 /// Reading without work buffers, so that check 9 cannot arise.

@@ -1,9 +1,9 @@
-//! What the six programs print.
+//! What the seven programs print.
 
 use second::event::{list_of, Event};
 use second::examples::{list_a, LAMPORTS_OF_A, LISTING_OF_A, SHEET_A};
 use second::marking::{bytes_of, Line};
-use second::text::{chain, class, compare, listing, marker, write, Printed};
+use second::text::{chain, class, compare, listing, marker, savings, write, Printed};
 
 fn on_output(text: &str) -> Printed {
     Printed {
@@ -123,6 +123,16 @@ fn marker_prints_each_mark_and_the_total() {
     assert_eq!(marker(Some(&[0]), &[]), on_output("refused 30 at 0\n"));
     assert_eq!(marker(Some(&list), &[]), on_output("refused 1 at 0\n"));
     assert_eq!(marker(None, SHEET_A), on_error("usage: marker FILE\n"));
+}
+
+#[test]
+fn savings_prints_whole_hundredths() {
+    assert_eq!(savings(SHEET_A), on_output("saved 50.00\n"));
+    let one_send = write(&["3"], &list_of(&[Event::send(0, 1, 1)])).output;
+    assert_eq!(savings(&one_send), on_output("saved 66.66\n"));
+    let no_sends = write(&["3"], &list_of(&[Event::internal(2)])).output;
+    assert_eq!(savings(&no_sends), on_output("no messages\n"));
+    assert_eq!(savings(&[]), on_output("refused 1 at 0\n"));
 }
 
 #[test]

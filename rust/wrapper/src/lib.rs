@@ -29,6 +29,8 @@
 //! let pupil = b"\x01\0\x03\0\x03\0\x01\0\x07\0\x02\0";
 //! let marked = oboefinch::mark(sheet_a, pupil)?;
 //! assert_eq!((marked.marks, marked.total), (vec![1, 0], 1));
+//!
+//! assert_eq!(oboefinch::savings(sheet_a)?, Some(50.0));
 //! # Ok::<(), oboefinch::Refusal>(())
 //! ```
 
@@ -264,6 +266,21 @@ pub fn mark(sheet: &[u8], lines: &[u8]) -> Result<Marked, Refusal> {
         marks,
         total: answer.y,
     })
+}
+
+/// What the short stamps of a sheet saved, in percent; none where it has no messages.
+pub fn savings(sheet: &[u8]) -> Result<Option<f64>, Refusal> {
+    let mut work = Work::largest();
+    let mut percent = [0.0];
+    let packed = raw::savings(
+        sheet,
+        &mut work.clocks,
+        &mut work.masks,
+        &mut work.values,
+        &mut percent,
+    );
+    let answer = Answer::accepted(packed)?;
+    Ok((answer.x == 1).then_some(percent[0]))
 }
 
 /// Compares two clocks of the same length.

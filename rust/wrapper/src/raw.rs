@@ -114,6 +114,19 @@ extern "C" {
         marks_length: usize,
     ) -> u64;
 
+    fn oboefinch_savings(
+        sheet: *const u8,
+        sheet_length: usize,
+        clocks: *mut u16,
+        clocks_length: usize,
+        masks: *mut u32,
+        masks_length: usize,
+        values: *mut u16,
+        values_length: usize,
+        percent: *mut f64,
+        percent_length: usize,
+    ) -> u64;
+
     fn oboefinch_order(
         first: *const u16,
         first_length: usize,
@@ -324,6 +337,30 @@ pub fn mark(
             values.len(),
             marks.as_mut_ptr(),
             marks.len(),
+        )
+    }
+}
+
+pub fn savings(
+    sheet: &[u8],
+    clocks: &mut [u16],
+    masks: &mut [u32],
+    values: &mut [u16],
+    percent: &mut [f64],
+) -> u64 {
+    // SAFETY: each pointer comes with its own slice's length; the call keeps none of them.
+    unsafe {
+        oboefinch_savings(
+            sheet.as_ptr(),
+            sheet.len(),
+            clocks.as_mut_ptr(),
+            clocks.len(),
+            masks.as_mut_ptr(),
+            masks.len(),
+            values.as_mut_ptr(),
+            values.len(),
+            percent.as_mut_ptr(),
+            percent.len(),
         )
     }
 }

@@ -5,8 +5,9 @@ use Rattle.paper.specs.Reading.{reading}
 use Rattle.paper.specs.Refusals.{done}
 use Rattle.paper.specs.Sheet.{list-size}
 use Rattle.course.specs.Said.{work}
+use Rattle.order.proofs.OfSheet.{found}
 use Rattle.sheet.specs.Said.{told, Where}
-use Rattle.marks.proofs.Judged.{found, short-lines, mark-30, mark-refused, slots-ready, mark-judged}
+use Rattle.marks.proofs.Judged.{short-lines, mark-30, mark-refused, slots-ready, mark-judged}
 use borrow.Author.Needs.{needs}
 use Rattle.marks.proofs.mark.Statement.{statement}
 use Rattle.marks.proofs.mark.Tie as tie

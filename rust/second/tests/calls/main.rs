@@ -5,3 +5,4 @@ mod lamports;
 mod marks;
 mod paper;
 mod refusals;
+mod savings;

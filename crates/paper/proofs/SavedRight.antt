@@ -1,0 +1,215 @@
+-- `saved-right`: what is told of a sheet. The sends are the accepted events of that kind, received or not; the values carried never exceed n times
+-- sends, stamp by stamp; there are no messages exactly where there is no send; and no float is nearer to the exact fraction than the one told.
+use Prim.Native.Nat.{ℕ, zero, suc, _+_, _-_, _*_, _≤_, _<_}
+use native.Mathlib.Nat.{mul-add, mul-pos}
+use native.Mathlib.Omega.{arith}
+use mathlib.Core.Path.{_≡_, refl, ap, _∙_, subst}
+use mathlib.Core.Logic.{_↔_}
+use mathlib.Core.Bool.{Bool, true, false, cond}
+use mathlib.Core.List.{List, [], _∷_, _++_, flatMap}
+use lib.Dec.{eqb, ltb}
+use lib.Ieee.{Float}
+use lib.ListN.{length, getD, length-append}
+use borrow.Author.Tests.{eqb-true, eq-eqb, ne-eqb, eqb-false}
+use Rattle.paper.specs.Buffers.{Work, value-slots, entries}
+use Rattle.paper.specs.Clock.{Clock, most-processes, most-events}
+use Rattle.paper.specs.Event.{Event, send, is-send, how-many, events-of}
+use Rattle.paper.specs.Machine.{Clocked, start, run, answer, clocked, event-clock}
+use Rattle.paper.specs.Marking.{Number-of}
+use Rattle.paper.specs.Order.{event-of}
+use Rattle.paper.specs.Reading.{reading-refusal}
+use Rattle.paper.specs.Refusals.{first, of-call, Outcome, done}
+use Rattle.paper.specs.Running.{fresh-records}
+use Rattle.paper.specs.Savings.{sends, Counts, counts, whole, nearest, Saving, no-messages, percent, saving, savings, storing-refusal}
+use Rattle.paper.specs.Sheet.{processes-in, list-in}
+use Rattle.paper.specs.Stamp.{Stamp, count, no-stamp, never-sent, previous, stamp-of, stamps-after}
+use Rattle.paper.proofs.Laws.Append.{clocked-append, clocked-yes}
+use Rattle.paper.proofs.Laws.Masks.{count-le, count-same, count-less}
+use Rattle.paper.proofs.Laws.Places.{old, new, longer}
+use Rattle.paper.proofs.Laws.Runs.{clocked-few, length-events}
+use Rattle.paper.proofs.Laws.Tables.{cond-cases}
+use Rattle.paper.proofs.Lent.Stamps.{stamps-fit}
+use Rattle.paper.proofs.NearestRight.{Nearest-to, nearest-right}
+use Rattle.paper.proofs.ReadExactly.{reading-number}
+use Rattle.paper.proofs.Sheets.Checks.{not-below, last, both, is-done}
+use Rattle.paper.proofs.TotalRight.{counted, one-number}
+
+-- Counting from the first event on.
+count-first : (p : ℕ → Bool) (k : ℕ) → count p (suc k) ≡ cond (p 0) 1 0 + count (λ a. p (suc a)) k
+unfolding count
+count-first p zero = go (p 0)
+  where
+    go : (b : Bool) → cond b (0 + 1) 0 ≡ cond b 1 0 + 0
+    go true = refl
+    go false = refl
+count-first p (suc k) = go (p (suc k)) (count-first p k)
+  where
+    go :
+        (b : Bool) → count p (suc k) ≡ cond (p 0) 1 0 + count (λ a. p (suc a)) k
+        → cond b (count p (suc k) + 1) (count p (suc k)) ≡ cond (p 0) 1 0 + cond b (count (λ a. p (suc a)) k + 1) (count (λ a. p (suc a)) k)
+    go true h = omega arith
+    go false h = h
+
+-- A stamp of an event carries at most n values, and none where the event is no send.
+one-stamp : (n : ℕ) (last : ℕ → ℕ → Clock) (c : Clocked) → length (stamp-of last c .values) ≤ n → length (stamp-of last c .values) ≤ n * cond (is-send (c .event)) 1 0
+unfolding stamp-of no-stamp
+one-stamp n last c = go (is-send (c .event)) _
+  where
+    go : (b : Bool) (t : Stamp) → length (cond b t no-stamp .values) ≤ n → length (cond b t no-stamp .values) ≤ n * cond b 1 0
+    go true t h = omega arith
+    go false t h = omega arith
+
+carried-few :
+    (n : ℕ) (cs : List Clocked) (last : ℕ → ℕ → Clock) → ((a : ℕ) → a < length cs → length (getD (stamps-after last cs) a no-stamp .values) ≤ n)
+    → length (value-slots (stamps-after last cs)) ≤ n * sends cs
+unfolding value-slots flatMap stamps-after sends
+carried-few n [] last h = omega arith
+carried-few n (c ∷ cs) last h =
+    let x : ℕ = cond (is-send (c .event)) 1 0 in
+    let e : sends (c ∷ cs) ≡ x + sends cs = count-first (λ a. is-send (event-of (c ∷ cs) a)) (length cs) in
+    let d : n * sends (c ∷ cs) ≡ n * x + n * sends cs = ap (λ (k : ℕ). n * k) e ∙ mul-add n x (sends cs) in
+    omega (
+      arith,
+      d,
+      length-append (stamp-of last c .values) (value-slots (stamps-after (previous last c) cs)),
+      one-stamp n last c (h 0 (omega arith)),
+      carried-few n cs (previous last c) (λ a l. h (suc a) (omega arith)),
+    )
+
+-- The values carried never exceed n times sends.
+pub never-more :
+    (n : ℕ) → n ≤ most-processes → (os : List Event) → length os ≤ most-events → entries (clocked n start os) ≤ n * sends (clocked n start os)
+never-more n small os few =
+    carried-few n (clocked n start os) never-sent (λ a h. stamps-fit n small os few a h .few)
+
+-- The sends are the accepted events of that kind.
+pub sends-are : (cs : List Clocked) → Number-of (λ a. event-of cs a .kind ≡ send) (length cs) (sends cs)
+unfolding sends
+sends-are cs =
+    counted (λ a. is-send (event-of cs a)) (λ a. event-of cs a .kind ≡ send)
+    (λ a. (eqb-true (event-of cs a .kind) send, eq-eqb (event-of cs a .kind) send)) (length cs)
+
+-- One accepted send more is one more, whether or not its message is ever received.
+pub one-send-more :
+    (n : ℕ) (os : List Event) (e : Event) → answer n (run n start os) e ≡ 0 → e .kind ≡ send
+    → sends (clocked n start (os ++ (e ∷ []))) ≡ suc (sends (clocked n start os))
+unfolding sends count
+one-send-more n os e taken kind =
+    let cs = clocked n start os in
+    let s = run n start os in
+    let c : Clocked = record { event = e; clock = event-clock s e } in
+    let is : clocked n start (os ++ (e ∷ [])) ≡ cs ++ (c ∷ []) =
+    clocked-append n (e ∷ []) os start ∙ ap (λ (l : List Clocked). cs ++ l) (clocked-yes n s fresh-records e taken) in
+    let same : count (λ a. is-send (event-of (cs ++ (c ∷ [])) a)) (length cs) ≡ count (λ a. is-send (event-of cs a)) (length cs) =
+    count-same _ _ (length cs) (λ a h. ap (λ (x : Clocked). is-send (x .event)) (old cs c a h)) in
+    let last : is-send (event-of (cs ++ (c ∷ [])) (length cs)) ≡ true =
+    ap (λ (x : Clocked). is-send (x .event)) (new cs c) ∙ eq-eqb (e .kind) send kind in
+    ap sends is ∙ rw (longer cs c, last, same) (omega arith)
+
+-- No number below k passes a test exactly where the count is 0.
+count-nothing : (p : ℕ → Bool) (k : ℕ) → ((a : ℕ) → a < k → p a ≡ true → ⊥) → count p k ≡ 0
+unfolding count
+count-nothing p zero h = refl
+count-nothing p (suc k) h = cond-cases (λ (x : ℕ). x ≡ 0) (p k) _ _ (λ q. absurd (h k (omega arith) q)) (λ q. count-nothing p k (λ a l. h a (omega arith)))
+
+count-none : (p : ℕ → Bool) (k : ℕ) → (count p k ≡ 0) ↔ ((a : ℕ) → a < k → p a ≡ true → ⊥)
+count-none p k = (λ z a h e. omega (arith, count-less p k a h e), count-nothing p k)
+
+-- The counts of a sheet that is not refused, as the code's numbers hold them.
+pub record Bounds (c : Counts) : Type 0 where
+  pub some : 1 ≤ c .processes
+  pub few : c .processes ≤ 32
+  pub brief : c .sends ≤ 512
+  pub never : c .carried ≤ whole c
+
+-- What is told of accepted events of n processes is right: of k sends, all that there are.
+pub record Rightly-saved (n : ℕ) (cs : List Clocked) (s : Saving) : Type 0 where
+  pub empty : (s ≡ no-messages) ↔ ((a : ℕ) → a < length cs → event-of cs a .kind ≡ send → ⊥)
+  pub figure :
+      (k : ℕ) → Number-of (λ a. event-of cs a .kind ≡ send) (length cs) k → 0 < k
+      → let p = 100 * (n * k - entries cs) in
+      (s ≡ percent (nearest p (n * k))) × Nearest-to p (n * k) (nearest p (n * k))
+  pub never-more : (k : ℕ) → Number-of (λ a. event-of cs a .kind ≡ send) (length cs) k → entries cs ≤ n * k
+
+module _ (b : List ℕ) (w : Work) where
+  abbrev n : ℕ
+  n = processes-in b
+
+  abbrev accepted : List Clocked
+  accepted = clocked n start (events-of (list-in b))
+
+  module _ (h : reading-refusal b w .number ≡ 0) where
+    few-events : how-many (list-in b) ≤ most-events
+    few-events =
+        let (m, l, e) = reading-number b w .0 h .0 .whole-records in
+        omega arith
+
+    few-processes : (1 ≤ n) × (n ≤ most-processes)
+    few-processes = let p = reading-number b w .0 h .0 .processes in (p .1, p .2)
+
+    not-exceeded : entries accepted ≤ n * sends accepted
+    not-exceeded = never-more n (few-processes .1) (events-of (list-in b)) (omega (arith, few-events, length-events (how-many (list-in b)) (list-in b)))
+
+    pub bounds : Bounds (counts n accepted)
+    unfolding counts sends
+    bounds =
+        record {
+          some = few-processes .0;
+          few = few-processes .1;
+          brief =
+              omega (
+                arith,
+                few-events,
+                count-le (λ a. is-send (event-of accepted a)) (length accepted),
+                clocked-few n (events-of (list-in b)) start,
+                length-events (how-many (list-in b)) (list-in b),
+              );
+          never = not-exceeded;
+        }
+
+    rightly : Rightly-saved n accepted (saving (counts n accepted))
+    unfolding counts saving sends
+    rightly =
+        let p : ℕ → Bool = λ a. is-send (event-of accepted a) in
+        record {
+          empty = go (eqb (sends accepted) 0) refl;
+          figure =
+              λ k is some.
+              let e : sends accepted ≡ k = one-number (sends-are accepted) is in
+              let p = 100 * (n * k - entries accepted) in (
+                rw (ne-eqb (sends accepted) 0 (λ z. omega arith)) (ap (λ (j : ℕ). percent (nearest (100 * (n * j - entries accepted)) (n * j))) e),
+                nearest-right p (n * k) (mul-pos (few-processes .0) some) (omega arith),
+              );
+          never-more = λ k is. subst (λ (j : ℕ). entries accepted ≤ n * j) (one-number (sends-are accepted) is) not-exceeded;
+        }
+      where
+        go :
+            (t : Bool) → eqb (sends accepted) 0 ≡ t
+            → (cond t no-messages (percent (nearest (100 * (n * sends accepted - entries accepted)) (n * sends accepted))) ≡ no-messages)
+            ↔ ((a : ℕ) → a < length accepted → event-of accepted a .kind ≡ send → ⊥)
+        go true e = (
+          λ q a l k. count-none (λ a. is-send (event-of accepted a)) (length accepted) .0 (eqb-true (sends accepted) 0 e) a l (eq-eqb (event-of accepted a .kind) send k),
+          λ q. refl,
+        )
+        go false e = (
+          λ q. let z : _≡_ {A = ℕ} 0 1 = cc in absurd (omega arith),
+          λ q.
+              absurd
+              (eqb-false (sends accepted) 0 e
+              (count-none (λ a. is-send (event-of accepted a)) (length accepted) .1
+              (λ a l t. q a l (eqb-true (event-of accepted a .kind) send t)))),
+        )
+
+  -- Of every sheet that is not refused.
+  pub saved-right : (s : Saving) (w′ : Work) → savings b w ≡ (done s, w′) → Rightly-saved n accepted s
+  unfolding savings
+  saved-right s w′ h =
+      let (z, same) = is-done (reading-refusal b w) (saving (counts n accepted)) s .0 (ap (λ (x : Outcome Saving × Work). x .0) h) in
+      subst (Rightly-saved n accepted) same (rightly z)
+
+  -- What is stored is not refused exactly where the sheet is accepted and there is a slot.
+  pub storing-number : (out : List Float) → (storing-refusal b w out .number ≡ 0) ↔ ((reading-refusal b w .number ≡ 0) × (1 ≤ length out))
+  unfolding storing-refusal
+  storing-number out =
+      both (reading-refusal b w) (of-call (first (ltb (length out) 1) 21 0)) (λ h. h, λ h. h)
+      (last (ltb (length out) 1) 21 (omega arith) (not-below (length out) 1))

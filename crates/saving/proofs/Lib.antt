@@ -1,0 +1,4 @@
+pub mod Rounded
+mod Placed
+mod Sends
+pub mod Told

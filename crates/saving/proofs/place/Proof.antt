@@ -1,0 +1,32 @@
+use denote.Ref.{now}
+use native.Mathlib.Omega.{arith}
+use Rattle.course.specs.Said.{work}
+use Rattle.saving.specs.Said.{counts}
+use Rattle.saving.proofs.Placed.{placing-late, placing-done}
+use borrow.Author.Needs.{needs}
+use Rattle.saving.proofs.place.Statement.{statement}
+use Rattle.saving.proofs.place.Tie as tie
+
+returns : tie.Need-returns
+returns c =
+    let a = c .before .before .before .before .before .before .before .before .before .before .before .before .before .before .before .args in
+    placing-late (counts (a .c)) (work (now (a .clocks)) (now (a .masks)) (now (a .values))) (now (a .percent)) _ (omega (arith, c .before .before .before .before .before .before .before .before .before .before .if1 .taken)) (c .before .before .before .before .before .before .clear .ensures)
+
+returns-2 : tie.Need-returns-2
+returns-2 c =
+    let a = c .before .before .before .before .before .before .before .before .before .before .args in
+    placing-done (counts (a .c)) (work (now (a .clocks)) (now (a .masks)) (now (a .values))) (now (a .percent)) _ _ (omega (arith, c .before .before .before .before .before .if1 .left)) (c .before .before .before .before .figure .ensures) (c .before .before .put .ensures)
+
+pub place-spec : {M : Type 1} → statement M
+place-spec =
+    tie.close
+    (tie.spec
+    (λ c κs. search needs)
+    (λ c. search needs)
+    (λ c. search needs)
+    (λ c. search needs)
+    returns
+    (λ c κs. search needs)
+    (λ c κs. search needs)
+    (λ c. search needs)
+    returns-2)
