@@ -14,24 +14,26 @@ use borrow.Author.Tests.{eqb-true, eq-eqb, ne-eqb, eqb-false}
 use Rattle.paper.specs.Buffers.{Work, value-slots, entries}
 use Rattle.paper.specs.Clock.{Clock, most-processes, most-events}
 use Rattle.paper.specs.Event.{Event, send, is-send, how-many, events-of}
-use Rattle.paper.specs.Machine.{Clocked, start, run, answer, clocked, event-clock}
+use Rattle.paper.specs.Machine.{Clocked, start, run, answer, clocked, accepted-of, event-clock}
 use Rattle.paper.specs.Marking.{Number-of}
 use Rattle.paper.specs.Order.{event-of}
-use Rattle.paper.specs.Reading.{reading-refusal}
-use Rattle.paper.specs.Refusals.{first, of-call, Outcome, done}
+use Rattle.paper.specs.Reading.{reading-checks}
+use Rattle.paper.specs.Refusals.{first, of-call, refusal-of, Outcome, done}
 use Rattle.paper.specs.Running.{fresh-records}
-use Rattle.paper.specs.Savings.{sends, Counts, counts, whole, nearest, Saving, no-messages, percent, saving, savings, storing-refusal}
-use Rattle.paper.specs.Sheet.{processes-in, list-in}
+use Rattle.paper.specs.Savings.{sends, Counts, counts, whole, nearest, Saving, no-messages, percent, saving, savings, storing-checks}
+use Rattle.paper.specs.Sheet.{processes-in, terms-in, list-in}
 use Rattle.paper.specs.Stamp.{Stamp, count, no-stamp, never-sent, previous, stamp-of, stamps-after}
+use Rattle.paper.specs.Terms.{Terms}
 use Rattle.paper.proofs.Laws.Append.{clocked-append, clocked-yes}
 use Rattle.paper.proofs.Laws.Masks.{count-le, count-same, count-less}
 use Rattle.paper.proofs.Laws.Places.{old, new, longer}
 use Rattle.paper.proofs.Laws.Runs.{clocked-few, length-events}
 use Rattle.paper.proofs.Laws.Tables.{cond-cases}
+use Rattle.paper.proofs.Laws.Tests.{also}
 use Rattle.paper.proofs.Lent.Stamps.{stamps-fit}
 use Rattle.paper.proofs.NearestRight.{Nearest-to, nearest-right}
 use Rattle.paper.proofs.ReadExactly.{reading-number}
-use Rattle.paper.proofs.Sheets.Checks.{not-below, last, both, is-done}
+use Rattle.paper.proofs.Sheets.Checks.{not-below, last, both, by-place, placed, is-done}
 use Rattle.paper.proofs.TotalRight.{counted, one-number}
 
 -- Counting from the first event on.
@@ -78,9 +80,10 @@ carried-few n (c ∷ cs) last h =
 
 -- The values carried never exceed n times sends.
 pub never-more :
-    (n : ℕ) → n ≤ most-processes → (os : List Event) → length os ≤ most-events → entries (clocked n start os) ≤ n * sends (clocked n start os)
-never-more n small os few =
-    carried-few n (clocked n start os) never-sent (λ a h. stamps-fit n small os few a h .few)
+    (t : Terms) → t .processes ≤ most-processes → (os : List Event) → length os ≤ most-events
+    → entries (clocked t (start t) os) ≤ t .processes * sends (clocked t (start t) os)
+never-more t small os few =
+    carried-few (t .processes) (clocked t (start t) os) never-sent (λ a h. stamps-fit t small os few a h .few)
 
 -- The sends are the accepted events of that kind.
 pub sends-are : (cs : List Clocked) → Number-of (λ a. event-of cs a .kind ≡ send) (length cs) (sends cs)
@@ -91,15 +94,15 @@ sends-are cs =
 
 -- One accepted send more is one more, whether or not its message is ever received.
 pub one-send-more :
-    (n : ℕ) (os : List Event) (e : Event) → answer n (run n start os) e ≡ 0 → e .kind ≡ send
-    → sends (clocked n start (os ++ (e ∷ []))) ≡ suc (sends (clocked n start os))
+    (t : Terms) (os : List Event) (e : Event) → answer t (run t (start t) os) e ≡ 0 → e .kind ≡ send
+    → sends (clocked t (start t) (os ++ (e ∷ []))) ≡ suc (sends (clocked t (start t) os))
 unfolding sends count
-one-send-more n os e taken kind =
-    let cs = clocked n start os in
-    let s = run n start os in
+one-send-more t os e taken kind =
+    let cs = clocked t (start t) os in
+    let s = run t (start t) os in
     let c : Clocked = record { event = e; clock = event-clock s e } in
-    let is : clocked n start (os ++ (e ∷ [])) ≡ cs ++ (c ∷ []) =
-    clocked-append n (e ∷ []) os start ∙ ap (λ (l : List Clocked). cs ++ l) (clocked-yes n s fresh-records e taken) in
+    let is : clocked t (start t) (os ++ (e ∷ [])) ≡ cs ++ (c ∷ []) =
+    clocked-append t (e ∷ []) os (start t) ∙ ap (λ (l : List Clocked). cs ++ l) (clocked-yes t s fresh-records e taken) in
     let same : count (λ a. is-send (event-of (cs ++ (c ∷ [])) a)) (length cs) ≡ count (λ a. is-send (event-of cs a)) (length cs) =
     count-same _ _ (length cs) (λ a h. ap (λ (x : Clocked). is-send (x .event)) (old cs c a h)) in
     let last : is-send (event-of (cs ++ (c ∷ [])) (length cs)) ≡ true =
@@ -136,19 +139,19 @@ module _ (b : List ℕ) (w : Work) where
   n = processes-in b
 
   abbrev accepted : List Clocked
-  accepted = clocked n start (events-of (list-in b))
+  accepted = accepted-of (terms-in b) (list-in b)
 
-  module _ (h : reading-refusal b w .number ≡ 0) where
+  module _ (h : refusal-of (reading-checks b w []) .number ≡ 0) where
     few-events : how-many (list-in b) ≤ most-events
     few-events =
-        let (m, l, e) = reading-number b w .0 h .0 .whole-records in
+        let (m, l, e) = reading-number b w [] .0 h .0 .whole-records in
         omega arith
 
     few-processes : (1 ≤ n) × (n ≤ most-processes)
-    few-processes = let p = reading-number b w .0 h .0 .processes in (p .1, p .2)
+    few-processes = reading-number b w [] .0 h .0 .right .processes
 
     not-exceeded : entries accepted ≤ n * sends accepted
-    not-exceeded = never-more n (few-processes .1) (events-of (list-in b)) (omega (arith, few-events, length-events (how-many (list-in b)) (list-in b)))
+    not-exceeded = never-more (terms-in b) (few-processes .1) (events-of (list-in b)) (omega (arith, few-events, length-events (how-many (list-in b)) (list-in b)))
 
     pub bounds : Bounds (counts n accepted)
     unfolding counts sends
@@ -161,7 +164,7 @@ module _ (b : List ℕ) (w : Work) where
                 arith,
                 few-events,
                 count-le (λ a. is-send (event-of accepted a)) (length accepted),
-                clocked-few n (events-of (list-in b)) start,
+                clocked-few (terms-in b) (events-of (list-in b)) (start (terms-in b)),
                 length-events (how-many (list-in b)) (list-in b),
               );
           never = not-exceeded;
@@ -204,12 +207,19 @@ module _ (b : List ℕ) (w : Work) where
   pub saved-right : (s : Saving) (w′ : Work) → savings b w ≡ (done s, w′) → Rightly-saved n accepted s
   unfolding savings
   saved-right s w′ h =
-      let (z, same) = is-done (reading-refusal b w) (saving (counts n accepted)) s .0 (ap (λ (x : Outcome Saving × Work). x .0) h) in
+      let (z, same) = is-done (refusal-of (reading-checks b w [])) (saving (counts n accepted)) s .0 (ap (λ (x : Outcome Saving × Work). x .0) h) in
       subst (Rightly-saved n accepted) same (rightly z)
 
   -- What is stored is not refused exactly where the sheet is accepted and there is a slot.
-  pub storing-number : (out : List Float) → (storing-refusal b w out .number ≡ 0) ↔ ((reading-refusal b w .number ≡ 0) × (1 ≤ length out))
-  unfolding storing-refusal
+  pub storing-number :
+      (out : List Float)
+      → (refusal-of (storing-checks b w out) .number ≡ 0) ↔ ((refusal-of (reading-checks b w []) .number ≡ 0) × (1 ≤ length out))
   storing-number out =
-      both (reading-refusal b w) (of-call (first (ltb (length out) 1) 21 0)) (λ h. h, λ h. h)
-      (last (ltb (length out) 1) 21 (omega arith) (not-below (length out) 1))
+      let c = reading-checks b w [] in
+      also
+      (by-place (storing-checks b w out) (λ h. h, λ h. h)
+      (both (c .late) (of-call (first (ltb (length out) 1) 21 0)) (λ h. h, λ h. h)
+      (last (ltb (length out) 1) 21 (omega arith) (not-below (length out) 1)))) (
+        λ h. (placed c .1 (h .0, h .1 .0), h .1 .1),
+        λ h. let (early, late) = placed c .0 (h .0) in (early, (late, h .1)),
+      )
