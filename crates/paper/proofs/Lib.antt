@@ -3,6 +3,7 @@ pub mod Sizes
 pub mod Ones
 pub mod Stamps
 pub mod Agreement
+pub mod Also
 pub mod Sufficiency
 pub mod LeftOut
 pub mod Fifo
@@ -25,4 +26,5 @@ pub mod Lent
 pub mod Settled
 pub mod PupilA
 pub mod SavedA
+pub mod Stands
 pub mod OneOutcome
