@@ -27,4 +27,6 @@ pub mod Settled
 pub mod PupilA
 pub mod SavedA
 pub mod Stands
+pub mod Ample
+pub mod NeverShort
 pub mod OneOutcome
