@@ -1,2 +1,3 @@
+pub mod Event
 pub mod Said
 pub mod Scalar

@@ -10,6 +10,10 @@ use Rattle.paper.specs.Refusals.{Refusal, Outcome, refused, done}
 abbrev pub refusal : declared.Refusal → Refusal
 refusal r = record { number = r .number; position = r .position .0 }
 
+-- The refusal of the event at a position.
+abbrev pub of-event : ℕ → ℕ → Refusal
+of-event number position = record { number = number; position = position }
+
 -- 1 the first is below, 2 the second is below, 4 they are the same, 3 none of these.
 abbrev pub number : Verdict → ℕ
 number Before = 1
@@ -19,4 +23,4 @@ number Same = 4
 
 abbrev pub ordered : Ordered → Outcome ℕ
 ordered (code.Refused r) = refused (refusal r)
-ordered (code.Judged v) = done (number v)
+ordered (code.Done v) = done (number v)

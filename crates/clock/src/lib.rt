@@ -1,4 +1,6 @@
 // Clocks by value, the three sorts of figure, and the verdict on two lent clocks.
+pub mod event;
+
 ghost use mathlib.Core.Path.{_≡_};
 ghost use mathlib.Core.Bool.{cond, _&&_, not};
 ghost use Prim.Native.Nat.{_≤_};
@@ -6,8 +8,9 @@ ghost use lib.ListN.{length};
 ghost use Rattle.paper.specs.Clock.{zero-clock};
 ghost use Rattle.paper.specs.Order.{within};
 ghost use Rattle.paper.specs.Questions.{ordering};
+ghost use Rattle.paper.specs.Refusals.{of-call};
 ghost use Rattle.clock.specs.Scalar.{one-up};
-ghost use Rattle.clock.specs.Said.{number, ordered};
+ghost use Rattle.clock.specs.Said.{number, ordered, refusal, of-event};
 
 // The number of a process, from 0.
 pub struct Process(pub u8);
@@ -22,6 +25,28 @@ pub struct Message(pub u16);
 pub struct Refusal {
     pub number: u8,
     pub position: Position,
+}
+
+impl Refusal {
+    // A refusal that concerns no event.
+    pub fn of_call(number: u8) -> Refusal
+        ensures { λ r. ⌜ refusal r ≡ of-call number ⌝ }
+    {
+        Refusal {
+            number: number,
+            position: Position(0),
+        }
+    }
+
+    // The refusal of the event at a position.
+    pub fn of_event(number: u8, position: Position) -> Refusal
+        ensures { λ r. ⌜ refusal r ≡ of-event number (position .0) ⌝ }
+    {
+        Refusal {
+            number: number,
+            position: position,
+        }
+    }
 }
 
 // Thirty-two numbers, of which the first n are used and the rest stay 0.
@@ -68,7 +93,7 @@ impl Verdict {
 // What comparing two lent clocks answers.
 pub enum Ordered {
     Refused(Refusal),
-    Judged(Verdict),
+    Done(Verdict),
 }
 
 struct Both {
@@ -117,12 +142,9 @@ pub fn order(first: &[u16], second: &[u16]) -> Ordered
 {
     let n = first.len();
     if (n < 1) | (Clock::PROCESSES < n) | (n != second.len()) {
-        return Ordered::Refused(Refusal {
-            number: 4,
-            position: Position(0),
-        });
+        return Ordered::Refused(Refusal::of_call(4));
     }
-    Ordered::Judged(judge(ways(first, second)))
+    Ordered::Done(judge(ways(first, second)))
 }
 
 // LC2 (b), then LC1: a process whose value is `own` receives a message that carries t, or nothing, which is 0. The largest u16 stays.

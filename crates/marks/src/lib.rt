@@ -48,7 +48,7 @@ fn is_verdict(n: usize, clocks: &[u16], first: usize, second: usize, given: usiz
     let b = n * second;
     match clock::order(&clocks[a..a + n], &clocks[b..b + n]) {
         Ordered::Refused(_) => false,
-        Ordered::Judged(v) => given == v.number(),
+        Ordered::Done(v) => given == v.number(),
     }
 }
 

@@ -211,6 +211,6 @@ pub extern "C" fn oboefinch_order(first: &[u16], second: &[u16]) -> u64
 {
     match clock::order(first, second) {
         Ordered::Refused(r) => pack::refusal(r),
-        Ordered::Judged(v) => pack::verdict(v),
+        Ordered::Done(v) => pack::verdict(v),
     }
 }

@@ -59,7 +59,7 @@ fn judge(n: usize, clocks: &[u16], first: Position, second: Position) -> Verdict
     let b = n * second.0;
     match clock::order(&clocks[a..a + n], &clocks[b..b + n]) {
         Ordered::Refused(_) => Verdict::Neither,
-        Ordered::Judged(v) => v,
+        Ordered::Done(v) => v,
     }
 }
 

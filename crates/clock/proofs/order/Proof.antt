@@ -1,12 +1,12 @@
 use borrow.Author.Needs.{needs}
 use mathlib.Core.Path.{ap, _∙_}
-use Rattle.paper.specs.Refusals.{done}
+use Rattle.paper.specs.Refusals.{refused, done}
 use Rattle.clock.proofs.Laws.{ordering-refused, ordering-judged, same-length}
 use Rattle.clock.proofs.order.Statement.{statement}
 use Rattle.clock.proofs.order.Tie as tie
 
 returns : tie.Need-returns
-returns c = ordering-refused _ _ (c .if1 .taken)
+returns c = ap refused (c .of-call .ensures) ∙ ordering-refused _ _ (c .before .if1 .taken)
 
 ways-requires : tie.Need-ways-requires
 ways-requires c κs = same-length _ _ (c .if1 .left)
@@ -17,4 +17,4 @@ returns-2 c =
     ap done (c .judge .ensures) ∙ ordering-judged _ _ _ _ (c .before .before .if1 .left) (w .0) (w .1)
 
 pub order-spec : {M : Type 1} → statement M
-order-spec = tie.close (tie.spec returns ways-requires (λ c κs. search needs) returns-2)
+order-spec = tie.close (tie.spec (λ c κs. search needs) returns ways-requires (λ c κs. search needs) returns-2)

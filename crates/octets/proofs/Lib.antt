@@ -1,0 +1,4 @@
+pub mod Appended
+pub mod Places
+pub mod Written
+pub mod Decimal
