@@ -9,7 +9,7 @@ use lib.ListN.{length}
 use borrow.Author.Tests.{ltb-false, eqb-true, not-false}
 use Rattle.paper.specs.Order.{within}
 use Rattle.paper.specs.Questions.{ordering}
-use Rattle.paper.specs.Reading.{wrong-count}
+use Rattle.paper.specs.Terms.{wrong-count}
 use Rattle.paper.specs.Refusals.{of-call, refused, done}
 use Rattle.paper.proofs.Laws.Verdict.{verdict-within}
 

@@ -3,9 +3,14 @@ use Prim.Native.Nat.{ℕ}
 use Rattle.clock.specs.declared.Ordered.{Ordered}
 use Rattle.clock.specs.declared.Ordered.the-variants as code
 use Rattle.clock.specs.declared.Refusal as declared
+use Rattle.clock.specs.declared.Terms as declared-terms
 use Rattle.clock.specs.declared.Verdict.{Verdict}
 use Rattle.clock.specs.declared.Verdict.the-variants.{Before, After, Neither, Same}
 use Rattle.paper.specs.Refusals.{Refusal, Outcome, refused, done}
+use Rattle.paper.specs.Terms.{Terms}
+
+abbrev pub terms : declared-terms.Terms → Terms
+terms t = record { version = t .version; processes = t .processes; present = t .present }
 
 abbrev pub refusal : declared.Refusal → Refusal
 refusal r = record { number = r .number; position = r .position .0 }

@@ -10,7 +10,8 @@ ghost use Rattle.paper.specs.Order.{within};
 ghost use Rattle.paper.specs.Questions.{ordering};
 ghost use Rattle.paper.specs.Refusals.{of-call};
 ghost use Rattle.clock.specs.Scalar.{one-up};
-ghost use Rattle.clock.specs.Said.{number, ordered, refusal, of-event};
+ghost use Rattle.paper.specs.Terms.{plain};
+ghost use Rattle.clock.specs.Said.{number, ordered, refusal, of-event, terms};
 
 // The number of a process, from 0.
 pub struct Process(pub u8);
@@ -45,6 +46,26 @@ impl Refusal {
         Refusal {
             number: number,
             position: position,
+        }
+    }
+}
+
+// What a list or a sheet is judged by: the version, how many processes there are, and how many of them are present at the start, which no rule looks at.
+pub struct Terms {
+    pub version: usize,
+    pub processes: usize,
+    pub present: usize,
+}
+
+impl Terms {
+    // The terms of a list lent directly, of so many processes.
+    pub fn plain(processes: usize) -> Terms
+        ensures { λ r. ⌜ terms r ≡ plain processes ⌝ }
+    {
+        Terms {
+            version: 1,
+            processes: processes,
+            present: 0,
         }
     }
 }
