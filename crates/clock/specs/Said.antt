@@ -9,8 +9,8 @@ use Rattle.clock.specs.declared.Verdict.the-variants.{Before, After, Nei
 use Rattle.paper.specs.Refusals.{Refusal, Outcome, refused, done}
 use Rattle.paper.specs.Terms.{Terms}
 
-abbrev pub terms : declared-terms.Terms → Terms
-terms t = record { version = t .version; processes = t .processes; present = t .present }
+abbrev pub stated : declared-terms.Terms → Terms
+stated t = record { version = t .version; processes = t .processes; present = t .present }
 
 abbrev pub refusal : declared.Refusal → Refusal
 refusal r = record { number = r .number; position = r .position .0 }

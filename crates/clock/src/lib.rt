@@ -11,7 +11,7 @@ ghost use Rattle.paper.specs.Questions.{ordering};
 ghost use Rattle.paper.specs.Refusals.{of-call};
 ghost use Rattle.clock.specs.Scalar.{one-up};
 ghost use Rattle.paper.specs.Terms.{plain};
-ghost use Rattle.clock.specs.Said.{number, ordered, refusal, of-event, terms};
+ghost use Rattle.clock.specs.Said.{number, ordered, refusal, of-event, stated};
 
 // The number of a process, from 0.
 pub struct Process(pub u8);
@@ -60,7 +60,7 @@ pub struct Terms {
 impl Terms {
     // The terms of a list lent directly, of so many processes.
     pub fn plain(processes: usize) -> Terms
-        ensures { λ r. ⌜ terms r ≡ plain processes ⌝ }
+        ensures { λ r. ⌜ stated r ≡ plain processes ⌝ }
     {
         Terms {
             version: 1,
