@@ -61,7 +61,7 @@ header-then b k =
     go false false false false false false false = refl
 
 -- So two rests that agree where the checks before them pass give the same number.
-rest-same : (f : ℕ → ℕ) (k l : ℕ) → ((i : ℕ) → f i ≡ cond (eqb (f 0) 0) i (f 0)) → (f 0 ≡ 0 → k ≡ l) → f k ≡ f l
+pub rest-same : (f : ℕ → ℕ) (k l : ℕ) → ((i : ℕ) → f i ≡ cond (eqb (f 0) 0) i (f 0)) → (f 0 ≡ 0 → k ≡ l) → f k ≡ f l
 rest-same f k l h e = go (ℕ-discrete (f 0) 0)
   where
     go : Dec (f 0 ≡ 0) → f k ≡ f l

@@ -1,7 +1,7 @@
 -- The total call: what the early checks refuse writes nothing, and past them what is lent is enough for the loop.
 use mathlib.Core.Path.{refl, sym, _∙_}
 use borrow.Author.Needs.{needs}
-use Rattle.offers.proofs.Early.{enough, lent}
+use Rattle.offers.proofs.Early.{lent}
 use Rattle.offers.proofs.run.Statement.{statement}
 use Rattle.offers.proofs.run.Tie as tie
 
@@ -18,7 +18,7 @@ returns c =
     }
 
 in-turn-requires : tie.Need-in-turn-requires
-in-turn-requires c κs = let e = passed c in lent (enough _ _ _ (sym (e .before .early-number .ensures) ∙ e .if1 .left))
+in-turn-requires c κs = let e = passed c in lent _ _ _ (sym (e .before .early-number .ensures) ∙ e .if1 .left)
 
 returns-2 : tie.Need-returns-2
 returns-2 c =

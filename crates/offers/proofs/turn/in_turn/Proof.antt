@@ -4,6 +4,7 @@ use borrow.Author.Needs.{needs}
 use mathlib.Core.Path.{refl, sym, ap}
 use Prim.Native.Nat.{_-_, _<_}
 use native.Mathlib.Omega.{arith}
+use Rattle.clock.specs.Said.{stated}
 use Rattle.offers.specs.Slots.{slots}
 use Rattle.offers.specs.Tables.{tables}
 use Rattle.offers.specs.declared.Lengths.{Lengths}
@@ -12,12 +13,12 @@ use Rattle.offers.proofs.turn.in_turn.Statement.{statement}
 use Rattle.offers.proofs.turn.in_turn.Tie as tie
 
 abbrev Inv-loop : tie.InvT-loop
-Inv-loop strict n m list clocks₀ masks₀ values₀ answers₀ lamports₀ records₀ sends₀ channels₀ head₀ latest₀ tally₀ end₀ i₀ clocks masks values answers lamports records sends channels head latest tally end i =
-    Underway strict n m list (slots clocks₀ masks₀ values₀ answers₀ lamports₀) (slots clocks masks values answers lamports)
+Inv-loop strict terms m list clocks₀ masks₀ values₀ answers₀ lamports₀ records₀ sends₀ channels₀ head₀ latest₀ tally₀ end₀ i₀ clocks masks values answers lamports records sends channels head latest tally end i =
+    Underway strict (stated terms) m list (slots clocks₀ masks₀ values₀ answers₀ lamports₀) (slots clocks masks values answers lamports)
     records (tables sends channels head) latest end tally i
 
 abbrev μ-loop : tie.MeasureT-loop
-μ-loop strict n m list clocks₀ masks₀ values₀ answers₀ lamports₀ records₀ sends₀ channels₀ head₀ latest₀ tally₀ end₀ i₀ clocks masks values answers lamports records sends channels head latest tally end i =
+μ-loop strict terms m list clocks₀ masks₀ values₀ answers₀ lamports₀ records₀ sends₀ channels₀ head₀ latest₀ tally₀ end₀ i₀ clocks masks values answers lamports records sends channels head latest tally end i =
     m - i
 
 -- The places that answers look back to: the entry, the turn's start, where its process is known, behind `offered`, and behind `advance`.
