@@ -1,4 +1,6 @@
 pub mod Clearing
+pub mod Tidied
 pub mod Emptied
-pub mod Called
+pub mod ClassMode
+pub mod StrictCourse
 pub mod Passed

@@ -2,15 +2,12 @@
 mod zero;
 
 ghost use mathlib.Core.Path.{_≡_};
-ghost use Prim.Native.Nat.{_-_, _*_};
-ghost use lib.ListN.{replicate};
-ghost use lib.Seq.{sets};
 ghost use Rattle.paper.specs.Class as paper;
 ghost use Rattle.paper.specs.Questions as questions;
 ghost use Rattle.paper.specs.Refusals.{of-call};
 ghost use Rattle.clock.specs.Said.{refusal};
 ghost use Rattle.course.specs.Said.{work, classed, judged, late, late-lamports};
-ghost use Rattle.course.specs.Slots.{named, Tail};
+ghost use Rattle.course.specs.Slots.{named, Tail, swept};
 use clock::Clock;
 use clock::Position;
 use clock::Refusal;
@@ -47,10 +44,9 @@ fn tidy(
     masks: &mut [u32],
     values: &mut [u16],
 )
-    requires { ⌜ Tail n m k v (now clocks) (now masks) (now values) ⌝ }
-    ensures { λ _. ⌜ (now (clocks .exit) ≡ sets (now (clocks .entry)) (n * k) (replicate (n * m - n * k) 0))
-        × (now (masks .exit) ≡ sets (now (masks .entry)) k (replicate (m - k) 0))
-        × (now (values .exit) ≡ sets (now (values .entry)) v (replicate (n * m - v) 0)) ⌝ }
+    requires { ⌜ Tail n m k v (work (now clocks) (now masks) (now values)) ⌝ }
+    ensures { λ _. ⌜ work (now (clocks .exit)) (now (masks .exit)) (now (values .exit))
+        ≡ swept n m k v (work (now (clocks .entry)) (now (masks .entry)) (now (values .entry))) ⌝ }
 {
     zero::clear16(clocks, n * k, n * m);
     zero::clear32(masks, k, m);
@@ -99,7 +95,7 @@ pub fn class_lamport(
     ensures { λ r. ⌜ ((classed r, work (now (clocks .exit)) (now (masks .exit)) (now (values .exit)), now (answers .exit)), now (lamports .exit))
         ≡ paper.class-lamport n (now (list .entry)) (work (now (clocks .entry)) (now (masks .entry)) (now (values .entry))) (now (answers .entry)) (now (lamports .entry)) ⌝ }
 {
-    let t = offers::course(false, n, list, clocks, masks, values, answers, lamports);
+    let t = offers::run(false, n, list, clocks, masks, values, answers, lamports);
     if t.number != 0 {
         return Classed::Refused(of_call(t.number));
     }
@@ -145,7 +141,7 @@ pub fn strict_lamport(
         ≡ questions.strict-lamport n (now (list .entry)) (work (now (clocks .entry)) (now (masks .entry)) (now (values .entry))) (now (lamports .entry)) ⌝ }
 {
     let mut answers = [0u8; 512];
-    let t = offers::course(true, n, list, clocks, masks, values, &mut answers, lamports);
+    let t = offers::run(true, n, list, clocks, masks, values, &mut answers, lamports);
     if t.number != 0 {
         return Judged::Refused(of_call(t.number));
     }

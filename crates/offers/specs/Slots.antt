@@ -14,8 +14,11 @@ pub record Slots : Type 0 where
   pub page : Page
   pub lamports : List ℕ
 
+abbrev pub work : List ℕ → List ℕ → List ℕ → Work
+work c m v = record { clocks = c; masks = m; values = v }
+
 abbrev pub page : List ℕ → List ℕ → List ℕ → List ℕ → Page
-page c m v a = record { work = record { clocks = c; masks = m; values = v }; answers = a }
+page c m v a = record { work = work c m v; answers = a }
 
 abbrev pub slots : List ℕ → List ℕ → List ℕ → List ℕ → List ℕ → Slots
 slots c m v a l = record { page = page c m v a; lamports = l }

@@ -1,18 +1,14 @@
+-- Class mode with 512 slots of its own for Lamport numbers, which say nothing in the answer.
 use mathlib.Core.Path.{ap, _∙_}
 use Prim.Native.Nat.{ℕ}
-use denote.Ref.{now}
 use lib.ListN.{length-replicate}
-use Rattle.course.specs.Said.{work}
-use Rattle.course.proofs.Called.{class-unasked}
+use Rattle.course.proofs.ClassMode.{class-unasked}
 use borrow.Author.Needs.{needs}
 use Rattle.course.proofs.class.Statement.{statement}
 use Rattle.course.proofs.class.Tie as tie
 
 returns : tie.Need-returns
-returns c =
-    let a = c .before .before .before .before .before .before .before .before .before .before .before .before .before .before .before .before .before .before .before .before .args in
-    ap (λ p. p .0) (c .before .before .before .before .before .before .before .before .before .class-lamport .ensures)
-    ∙ class-unasked (a .n) (now (a .list)) (work (now (a .clocks)) (now (a .masks)) (now (a .values))) _ (length-replicate {A = ℕ} 512 0) (now (a .answers))
+returns c = ap (λ p. p .0) (c .before .before .before .before .before .before .before .before .before .class-lamport .ensures) ∙ class-unasked _ _ _ _ _ (length-replicate {A = ℕ} 512 0)
 
 pub class-spec : {M : Type 1} → statement M
 class-spec =

@@ -1,37 +1,38 @@
-use mathlib.Core.Path.{sym, _∙_}
-use denote.Ref.{now}
-use lib.ListN.{length}
-use Rattle.paper.specs.Buffers.{short}
-use Rattle.offers.proofs.Early.{Enough, enough, lent}
-use Rattle.course.proofs.Called.{tail, numbers-tail, class-kept, class-ran}
+-- Class mode: what the course of offers left behind and what was tidied, put together by the laws of `ClassMode`.
+use Rattle.course.proofs.Tidied.{tail, numbers-tail}
+use Rattle.course.proofs.ClassMode.{class-kept, class-ran}
 use borrow.Author.Needs.{needs}
 use Rattle.course.proofs.class_lamport.Statement.{statement}
 use Rattle.course.proofs.class_lamport.Tie as tie
 
--- Past the early checks, what is lent is enough.
-room :
-    (c : tie.Else1) → let a = c .before .before .before .before .before .before .before .before .before .before .before .before .before .before .before .before .before .before .before .before .before .before .before .before .args in
-    Enough (a .n) (length (now (a .list))) (length (now (a .clocks))) (length (now (a .masks))) (length (now (a .values))) (length (now (a .answers))) (length (now (a .lamports)))
-room c = enough _ _ _ _ _ _ _ (sym (c .before .before .before .before .before .before .before .before .before .before .before .before .course .ensures .checked) ∙ c .if1 .left)
+-- The places that answers look back to: behind `offers::run`, in either branch, and behind `tidy`.
+abbrev stopped : tie.Then1 → tie.After-run
+stopped c = c .before .before .before .before .before .before .before .before .before .before .before .before
+
+abbrev ran : tie.Else1 → tie.After-run
+ran c = c .before .before .before .before .before .before .before .before .before .before .before .before
+
+abbrev passed : tie.After-tidy-arg3 → tie.Else1
+passed c = c .before .before .before
+
+abbrev tidied : tie.After-clear16-arg → tie.After-tidy
+tidied c = c .before .before .before .before .before .before .before
 
 returns : tie.Need-returns
-returns c = class-kept _ _ _ _ _ _ _ _ _ _ _ _ _ _ _ _ _ _ (c .before .before .before .before .before .before .before .before .before .before .before .before .before .course .ensures) (c .before .if1 .taken) (c .of-call .ensures)
+returns c = class-kept (stopped (c .before) .run .ensures) (c .before .if1 .taken) (c .of-call .ensures)
 
 tidy-requires : tie.Need-tidy-requires
-tidy-requires c κs =
-    tail _ _ _ _ _ _ _ _ _ _ _ _ _ _ _ _ _ (lent _ _ _ _ _ _ _ (room (c .before .before .before))) (c .before .before .before .before .before .before .before .before .before .before .before .before .before .before .before .course .ensures .passed (c .before .before .before .if1 .left))
+tidy-requires c κs = let e = passed c in tail (ran e .run .ensures) (e .if1 .left)
 
 clear16-requires : tie.Need-clear16-requires
-clear16-requires c κs =
-    numbers-tail _ _ _ _ _ _ _ _ _ _ _ _ _ _ _ _ _ (lent _ _ _ _ _ _ _ (room (c .before .before .before .before .before .before .before .before .before .before .before))) (c .before .before .before .before .before .before .before .before .before .before .before .before .before .before .before .before .before .before .before .before .before .before .before .course .ensures .passed (c .before .before .before .before .before .before .before .before .before .before .before .if1 .left))
+clear16-requires c κs = let e = passed (tidied c .before) in numbers-tail (ran e .run .ensures) (e .if1 .left)
 
 returns-2 : tie.Need-returns-2
-unfolding short
 returns-2 c =
-    let t = c .before .before .before .before .before .before .before .before .before .before .tidy .ensures in
-    let z = c .before .before .before .before .before .before .before .before .before .before .before .before .before .before .if1 .left in
-    let call = c .before .before .before .before .before .before .before .before .before .before .before .before .before .before .before .before .before .before .before .before .before .before .before .before .before .before .course .ensures in
-    class-ran _ _ _ _ _ _ _ _ _ _ _ _ _ _ _ _ _ _ _ (room (c .before .before .before .before .before .before .before .before .before .before .before .before .before .before)) (call .passed z) (sym (call .checked) ∙ z) (t .0) (t .1) (t .2) (c .before .before .clear16 .ensures)
+    let l = c .before .before in
+    let t = tidied (l .before) in
+    let e = passed (t .before) in
+    class-ran (ran e .run .ensures) (e .if1 .left) (t .tidy .ensures) (l .clear16 .ensures)
 
 pub class-lamport-spec : {M : Type 1} → statement M
 class-lamport-spec =

@@ -1,73 +1,85 @@
+-- The strict course: what the course of offers left behind and what was tidied, put together by the laws of `StrictCourse`.
 use native.Mathlib.Omega.{arith}
-use mathlib.Core.Path.{_≡_, refl, sym, _∙_}
-use mathlib.Core.Bool.{_||_}
-use denote.Ref.{now}
-use mathlib.Core.List.{[]}
-use lib.Dec.{ltb}
-use lib.ListN.{length}
-use Rattle.paper.specs.Class.{list-checks}
-use Rattle.paper.specs.Buffers.{short}
-use Rattle.paper.specs.Event.{how-many}
-use Rattle.offers.proofs.Early.{Enough, enough, lent, early-list}
-use Rattle.course.specs.Said.{work}
-use Rattle.course.proofs.Called.{tail, whole-tail, numbers-tail, strict-kept, some-tried, strict-ran, strict-stopped}
+use mathlib.Core.Path.{refl}
+use Rattle.course.proofs.Tidied.{tail, whole-tail, numbers-tail}
+use Rattle.course.proofs.StrictCourse.{strict-kept, some-tried, strict-ran, strict-stopped}
 use borrow.Author.Needs.{needs}
 use Rattle.course.proofs.strict_lamport.Statement.{statement}
 use Rattle.course.proofs.strict_lamport.Tie as tie
 
--- Past the early checks, what is lent is enough.
-room :
-    (c : tie.Else1) → let a = c .before .before .before .before .before .before .before .before .before .before .before .before .before .before .before .before .before .before .before .before .before .before .args in
-    Enough (a .n) (length (now (a .list))) (length (now (a .clocks))) (length (now (a .masks))) (length (now (a .values))) 512 (length (now (a .lamports)))
-room c = enough _ _ _ _ _ _ _ (sym (c .before .before .before .before .before .before .before .before .before .before .before .course .ensures .checked) ∙ c .if1 .left)
+-- The places that answers look back to: behind `offers::run`, in each branch, and behind each `tidy`.
+abbrev stopped : tie.Then1 → tie.After-run
+stopped c = c .before .before .before .before .before .before .before .before .before .before .before
 
-passed :
-    (c : tie.Else1) → let a = c .before .before .before .before .before .before .before .before .before .before .before .before .before .before .before .before .before .before .before .before .before .before .args in
-    list-checks (a .n) (now (a .list))
-    (short (a .n) (how-many (now (a .list))) (work (now (a .clocks)) (now (a .masks)) (now (a .values))) || ltb (length (now (a .lamports))) (how-many (now (a .list)))) ≡ 0
-passed c =
-    let a = c .before .before .before .before .before .before .before .before .before .before .before .before .before .before .before .before .before .before .before .before .before .before .args in
-    sym (early-list (a .n) (now (a .list)) (work (now (a .clocks)) (now (a .masks)) (now (a .values))) (now (a .lamports)))
-    ∙ sym (c .before .before .before .before .before .before .before .before .before .before .before .course .ensures .checked) ∙ c .if1 .left
+abbrev ran : tie.Else1 → tie.After-run
+ran c = c .before .before .before .before .before .before .before .before .before .before .before
+
+abbrev whole : tie.After-tidy-arg3 → tie.Then2
+whole c = c .before .before .before
+
+abbrev accepted : tie.Then2 → tie.Else1
+accepted c = c .before .before
+
+abbrev tidied : tie.After-clear16-arg → tie.After-tidy
+tidied c = c .before .before .before .before .before .before .before
+
+abbrev part : tie.After-tidy-arg6 → tie.Else2
+part c = c .before .before .before
+
+abbrev refused : tie.Else2 → tie.Else1
+refused c = c .before .before
+
+abbrev emptied : tie.After-clear16-arg2 → tie.After-tidy2
+emptied c = c .before .before .before .before .before .before .before
+
+abbrev cleared : tie.After-struct-known3 → tie.After-clear162
+cleared c = c .before .before .before
 
 returns : tie.Need-returns
-returns c = strict-kept _ _ _ _ _ _ _ _ _ _ _ _ _ _ _ _ _ _ (c .before .before .before .before .before .before .before .before .before .before .before .before .course .ensures) (c .before .if1 .taken) (c .of-call .ensures) refl
+returns c = strict-kept (stopped (c .before) .run .ensures) (c .before .if1 .taken) (c .of-call .ensures) refl
 
 tidy-requires : tie.Need-tidy-requires
-tidy-requires c κs =
-    tail _ _ _ _ _ _ _ _ _ _ _ _ _ _ _ _ _ (lent _ _ _ _ _ _ _ (room (c .before .before .before .before .before))) (c .before .before .before .before .before .before .before .before .before .before .before .before .before .before .before .before .course .ensures .passed (c .before .before .before .before .before .if1 .left))
+tidy-requires c κs = let e = accepted (whole c) in tail (ran e .run .ensures) (e .if1 .left)
 
 clear16-requires : tie.Need-clear16-requires
-clear16-requires c κs =
-    numbers-tail _ _ _ _ _ _ _ _ _ _ _ _ _ _ _ _ _ (lent _ _ _ _ _ _ _ (room (c .before .before .before .before .before .before .before .before .before .before .before .before .before))) (c .before .before .before .before .before .before .before .before .before .before .before .before .before .before .before .before .before .before .before .before .before .before .before .before .course .ensures .passed (c .before .before .before .before .before .before .before .before .before .before .before .before .before .if1 .left))
+clear16-requires c κs = let e = accepted (whole (tidied c .before)) in numbers-tail (ran e .run .ensures) (e .if1 .left)
 
 returns-2 : tie.Need-returns-2
 returns-2 c =
-    let t = c .before .before .before .before .before .before .before .before .before .before .tidy .ensures in
-    strict-ran _ _ _ _ _ _ _ _ _ _ _ _ _ _ _ _ _ _ _ (room (c .before .before .before .before .before .before .before .before .before .before .before .before .before .before .before .before)) (c .before .before .before .before .before .before .before .before .before .before .before .before .before .before .before .before .before .before .before .before .before .before .before .before .before .before .before .course .ensures .passed (c .before .before .before .before .before .before .before .before .before .before .before .before .before .before .before .before .if1 .left)) (passed (c .before .before .before .before .before .before .before .before .before .before .before .before .before .before .before .before)) (c .before .before .before .before .before .before .before .before .before .before .before .before .before .before .if2 .taken) (t .0) (t .1) (t .2) (c .before .before .clear16 .ensures)
+    let l = c .before .before in
+    let t = tidied (l .before) in
+    let b = whole (t .before) in
+    let e = accepted b in
+    strict-ran (ran e .run .ensures) (e .if1 .left) refl (b .if2 .taken) (t .tidy .ensures) (l .clear16 .ensures)
 
 tidy-requires-2 : tie.Need-tidy-requires-2
-tidy-requires-2 c κs =
-    whole-tail _ _ _ _ _ _ _ _ _ _ _ _ _ _ _ _ _ (lent _ _ _ _ _ _ _ (room (c .before .before .before .before .before))) (c .before .before .before .before .before .before .before .before .before .before .before .before .before .before .before .before .course .ensures .passed (c .before .before .before .before .before .if1 .left))
+tidy-requires-2 c κs = let e = refused (part c) in whole-tail (ran e .run .ensures) (e .if1 .left)
 
 clear16-requires-2 : tie.Need-clear16-requires-2
 clear16-requires-2 c κs =
-    let t = numbers-tail _ _ _ _ _ _ _ _ _ _ _ _ _ _ _ _ _ (lent _ _ _ _ _ _ _ (room (c .before .before .before .before .before .before .before .before .before .before .before .before .before))) (c .before .before .before .before .before .before .before .before .before .before .before .before .before .before .before .before .before .before .before .before .before .before .before .before .course .ensures .passed (c .before .before .before .before .before .before .before .before .before .before .before .before .before .if1 .left)) in
-    (omega arith, t .1)
+    let e = refused (part (emptied c .before)) in
+    (omega arith, numbers-tail (ran e .run .ensures) (e .if1 .left) .1)
 
 sub-at : tie.Need-sub-at
 sub-at c =
-    some-tried _ _ _ _ _ _ _ _ _ _ _ _ [] [] [] [] _ _ _ (room (c .before .before .before .before .before .before .before .before .before .before .before .before .before .before .before .before .before)) (c .before .before .before .before .before .before .before .before .before .before .before .before .before .before .before .before .before .before .before .before .before .before .before .before .before .before .before .before .course .ensures .passed (c .before .before .before .before .before .before .before .before .before .before .before .before .before .before .before .before .before .if1 .left)) (passed (c .before .before .before .before .before .before .before .before .before .before .before .before .before .before .before .before .before)) (c .before .before .before .before .before .before .before .before .before .before .before .before .before .before .before .if2 .left) .0
+    let b = part (emptied (cleared c .before) .before) in
+    let e = refused b in
+    some-tried (ran e .run .ensures) (e .if1 .left) (b .if2 .left) .0
 
 array-read-t44 : tie.Need-array-read-t44
 array-read-t44 c =
-    let t = some-tried _ _ _ _ _ _ _ _ _ _ _ _ [] [] [] [] _ _ _ (room (c .before .before .before .before .before .before .before .before .before .before .before .before .before .before .before .before .before)) (c .before .before .before .before .before .before .before .before .before .before .before .before .before .before .before .before .before .before .before .before .before .before .before .before .before .before .before .before .course .ensures .passed (c .before .before .before .before .before .before .before .before .before .before .before .before .before .before .before .before .before .if1 .left)) (passed (c .before .before .before .before .before .before .before .before .before .before .before .before .before .before .before .before .before)) (c .before .before .before .before .before .before .before .before .before .before .before .before .before .before .before .if2 .left) in
+    let b = part (emptied (cleared c .before) .before) in
+    let e = refused b in
+    let t = some-tried (ran e .run .ensures) (e .if1 .left) (b .if2 .left) in
     omega (arith, t .0, t .1)
 
 returns-3 : tie.Need-returns-3
 returns-3 c =
-    let t = c .before .before .before .before .before .before .before .before .before .before .before .tidy2 .ensures in
-    strict-stopped _ _ _ _ _ _ _ _ _ _ _ _ _ _ _ _ _ _ _ (room (c .before .before .before .before .before .before .before .before .before .before .before .before .before .before .before .before .before)) (c .before .before .before .before .before .before .before .before .before .before .before .before .before .before .before .before .before .before .before .before .before .before .before .before .before .before .before .before .course .ensures .passed (c .before .before .before .before .before .before .before .before .before .before .before .before .before .before .before .before .before .if1 .left)) (passed (c .before .before .before .before .before .before .before .before .before .before .before .before .before .before .before .before .before)) _ (c .before .before .before .before .before .before .before .before .before .before .before .before .before .before .before .if2 .left) refl refl (t .0) (t .1) (t .2) (c .before .before .before .clear162 .ensures)
+    let l = cleared c in
+    let t = emptied (l .before) in
+    let b = part (t .before) in
+    let e = refused b in
+    strict-stopped (ran e .run .ensures) (e .if1 .left) refl (b .if2 .left) refl refl (t .tidy2 .ensures) (l .clear162 .ensures)
 
 pub strict-lamport-spec : {M : Type 1} → statement M
 strict-lamport-spec =

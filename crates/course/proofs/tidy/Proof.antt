@@ -1,29 +1,45 @@
+-- Tidying: each buffer is zeroed behind what was stored in it, and the products that say where fit.
 use native.Mathlib.Omega.{arith}
+use Rattle.course.specs.Said.{work}
 use Rattle.course.proofs.Emptied.{products}
 use borrow.Author.Needs.{needs}
 use Rattle.course.proofs.tidy.Statement.{statement}
 use Rattle.course.proofs.tidy.Tie as tie
 
+-- The places that answers look back to: the entry, and behind the first and the second loop.
+abbrev entry : tie.After-clear16-arg → tie.Start
+entry c = c .before .before .before .before
+
+abbrev first : tie.After-clear32-arg → tie.After-clear16
+first c = c .before .before .before
+
+abbrev second : tie.After-clear16-arg2 → tie.After-clear32
+second c = c .before .before .before
+
 mul-clear16 : tie.Need-mul-clear16
-mul-clear16 c = let p = products _ _ _ _ _ _ _ (c .before .before .before .before .pre) in omega (arith, p .used, p .small)
+mul-clear16 c = let p = products (entry c .pre) in omega (arith, p .used, p .small)
 
 mul-clear16-2 : tie.Need-mul-clear16-2
-mul-clear16-2 c = let p = products _ _ _ _ _ _ _ (c .before .before .before .before .pre) in omega (arith, p .small)
+mul-clear16-2 c = omega (arith, products (entry c .pre) .small)
 
 clear16-requires : tie.Need-clear16-requires
-clear16-requires c κs = let t = c .before .before .before .before .pre in let p = products _ _ _ _ _ _ _ t in (p .used, t .clock)
+clear16-requires c κs = let t = entry c .pre in (products t .used, t .clock)
 
 clear32-requires : tie.Need-clear32-requires
-clear32-requires c κs = let t = c .before .before .before .before .before .before .before .before .pre in (t .accepted, t .mask)
+clear32-requires c κs = let t = entry (first c .before) .pre in (t .accepted, t .mask)
 
 mul-clear16-3 : tie.Need-mul-clear16-3
-mul-clear16-3 c = let p = products _ _ _ _ _ _ _ (c .before .before .before .before .before .before .before .before .before .before .before .before .pre) in omega (arith, p .small)
+mul-clear16-3 c = omega (arith, products (entry (first (second c .before) .before) .pre) .small)
 
 clear16-requires-2 : tie.Need-clear16-requires-2
-clear16-requires-2 c κs = let t = c .before .before .before .before .before .before .before .before .before .before .before .before .pre in (t .carried, t .value)
+clear16-requires-2 c κs = let t = entry (first (second c .before) .before) .pre in (t .carried, t .value)
 
 returns : tie.Need-returns
-returns c = (c .before .before .before .before .before .before .before .before .before .before .clear16 .ensures, c .before .before .before .before .before .before .clear32 .ensures, c .before .before .clear162 .ensures)
+returns c =
+    let v = c .before .before in
+    let m = second (v .before) in
+    let k = first (m .before) in
+    λ i. work (k .clear16 .ensures i) (m .clear32 .ensures i) (v .clear162 .ensures i)
 
 pub tidy-spec : {M : Type 1} → statement M
 tidy-spec =
