@@ -12,16 +12,17 @@ use Rattle.paper.specs.Event.{first-events, how-many}
 use Rattle.paper.specs.Lamport.{no-scalars, lamports}
 use Rattle.paper.specs.Machine.{Clocked, start}
 use Rattle.paper.specs.Stamp.{stamps, stamps-after}
+use Rattle.paper.specs.Terms.{Terms}
 use Rattle.paper.proofs.LamportBelow.Lists.{length-lamports}
 use Rattle.paper.proofs.Laws.Runs.{clocked-few, length-events}
 use Rattle.paper.proofs.Laws.Stores.{sets-laid, sets-cleared}
 use Rattle.paper.proofs.Lent.Stamps.{SlotsFit, slots-fit}
 use Rattle.offers.specs.Called.{Called}
 use Rattle.offers.specs.Course.{Lent, Ran}
-use Rattle.offers.specs.Slots.{Slots, lengths}
+use Rattle.offers.specs.Slots.{Slots}
 use Rattle.offers.specs.Turn.{accepted-at}
 use Rattle.offers.specs.declared.Tried.{Tried}
-use Rattle.offers.proofs.Early.{Enough, enough, lent}
+use Rattle.offers.proofs.Early.{lent}
 use Rattle.course.specs.Slots.{Tail, zeroed, swept}
 
 -- Slots in which xs were stored from the first on: zeroed behind them, and zeroed whole.
@@ -36,22 +37,19 @@ zeroed-cleared named xs old is many few room =
     let o : named - 0 ≡ named = omega arith in
     rw o (ap (λ (s : List ℕ). sets s 0 (replicate named 0)) is ∙ sets-cleared named xs old (omega (arith, many)) room)
 
-module _ {mode : Bool} {n : ℕ} {l : List ℕ} {w₀ w : Slots} {r : Tried} (call : Called mode n l w₀ w r) (z : r .number ≡ 0) where
+module _ {mode : Bool} {terms : Terms} {l : List ℕ} {w₀ w : Slots} {r : Tried} (call : Called mode terms l w₀ w r) (z : r .number ≡ 0) where
   abbrev m : ℕ
   m = how-many l
 
   -- Past the early checks, what is lent is enough.
-  pub allowed : Enough n (length l) (lengths w₀)
-  allowed = enough n (length l) (lengths w₀) (sym (call .checked) ∙ z)
+  pub room : Lent terms m l w₀
+  room = lent terms l w₀ (sym (call .checked) ∙ z)
 
-  room : Lent n m l w₀
-  room = lent allowed
-
-  ran : Ran mode n m l w₀ w r
+  ran : Ran mode terms m l w₀ w r
   ran = call .passed z
 
   abbrev cs : List Clocked
-  cs = accepted-at n l (r .tried)
+  cs = accepted-at terms l (r .tried)
 
   abbrev k : ℕ
   k = r .accepted
@@ -59,29 +57,29 @@ module _ {mode : Bool} {n : ℕ} {l : List ℕ} {w₀ w : Slots} {r : Tried} (ca
   abbrev v : ℕ
   v = r .carried
 
-  fit : SlotsFit n cs
-  fit = slots-fit n (room .few) (first-events (r .tried) l) (omega (arith, length-events (r .tried) l, ran .inside, room .short))
+  fit : SlotsFit (terms .processes) cs
+  fit = slots-fit terms (room .few) (first-events (r .tried) l) (omega (arith, length-events (r .tried) l, ran .inside, room .short))
 
   few : k ≤ m
-  few = omega (arith, ran .accepted-many, clocked-few n (first-events (r .tried) l) start, length-events (r .tried) l, ran .inside)
+  few = omega (arith, ran .accepted-many, clocked-few terms (first-events (r .tried) l) (start terms), length-events (r .tried) l, ran .inside)
 
-  used : n * k ≤ n * m
-  used = mul-le-mul (le-refl n) few
+  used : terms .processes * k ≤ terms .processes * m
+  used = mul-le-mul (le-refl (terms .processes)) few
 
-  clocks-many : length (clock-slots n cs) ≡ n * k
-  clocks-many = fit .clocks ∙ ap (_*_ n) (sym (ran .accepted-many))
+  clocks-many : length (clock-slots (terms .processes) cs) ≡ terms .processes * k
+  clocks-many = fit .clocks ∙ ap (_*_ (terms .processes)) (sym (ran .accepted-many))
 
   masks-many : length (mask-slots (stamps cs)) ≡ k
   masks-many = fit .masks ∙ sym (ran .accepted-many)
 
-  values-few : v ≤ n * m
-  values-few = omega (arith, ran .carried-many, fit .values, ap (_*_ n) (ran .accepted-many), used)
+  values-few : v ≤ terms .processes * m
+  values-few = omega (arith, ran .carried-many, fit .values, ap (_*_ (terms .processes)) (ran .accepted-many), used)
 
   numbers-many : length (lamports cs) ≡ k
   numbers-many = length-lamports cs no-scalars ∙ sym (ran .accepted-many)
 
   -- The slots behind what was stored can be cleared; and so can all named ones.
-  pub tail : Tail n m k v (w .page .work)
+  pub tail : Tail (terms .processes) m k v (w .page .work)
   tail =
       record {
         few = room .few;
@@ -93,7 +91,7 @@ module _ {mode : Bool} {n : ℕ} {l : List ℕ} {w₀ w : Slots} {r : Tried} (ca
         value = rw (ran .value, length-sets) (room .value);
       }
 
-  pub whole-tail : Tail n m 0 0 (w .page .work)
+  pub whole-tail : Tail (terms .processes) m 0 0 (w .page .work)
   whole-tail =
       let t = tail in
       record { few = t .few; short = t .short; accepted = omega arith; carried = omega arith; clock = t .clock; mask = t .mask; value = t .value }
@@ -101,23 +99,23 @@ module _ {mode : Bool} {n : ℕ} {l : List ℕ} {w₀ w : Slots} {r : Tried} (ca
   pub numbers-tail : (k ≤ m) × (m ≤ length (w .lamports))
   numbers-tail = (few, rw (ran .lamport, length-sets) (room .lamport))
 
-  pub tidied : swept n m k v (w .page .work) ≡ filled n m cs (w₀ .page .work)
+  pub tidied : swept (terms .processes) m k v (w .page .work) ≡ filled terms m cs (w₀ .page .work)
   unfolding filled
   tidied =
       let o = w₀ .page .work in
-      let x = zeroed-laid (n * m) (clock-slots n cs) (o .clocks) (ran .clock) clocks-many used (room .clock) in
+      let x = zeroed-laid (terms .processes * m) (clock-slots (terms .processes) cs) (o .clocks) (ran .clock) clocks-many used (room .clock) in
       let y = zeroed-laid m (mask-slots (stamps cs)) (o .masks) (ran .mask) masks-many few (room .mask) in
-      let u = zeroed-laid (n * m) (value-slots (stamps cs)) (o .values) (ran .value) (sym (ran .carried-many)) values-few (room .value) in
+      let u = zeroed-laid (terms .processes * m) (value-slots (stamps cs)) (o .values) (ran .value) (sym (ran .carried-many)) values-few (room .value) in
       λ i. record { clocks = x i; masks = y i; values = u i }
 
-  pub emptied : swept n m 0 0 (w .page .work) ≡ cleared n m (w₀ .page .work)
+  pub emptied : swept (terms .processes) m 0 0 (w .page .work) ≡ cleared terms m (w₀ .page .work)
   unfolding filled clock-slots value-slots flatMap stamps-after
   emptied =
       let o = w₀ .page .work in
-      let p : n * 0 ≡ 0 = omega arith in
-      let x = zeroed-cleared (n * m) (clock-slots n cs) (o .clocks) (ran .clock) clocks-many used (room .clock) in
+      let p : terms .processes * 0 ≡ 0 = omega arith in
+      let x = zeroed-cleared (terms .processes * m) (clock-slots (terms .processes) cs) (o .clocks) (ran .clock) clocks-many used (room .clock) in
       let y = zeroed-cleared m (mask-slots (stamps cs)) (o .masks) (ran .mask) masks-many few (room .mask) in
-      let u = zeroed-cleared (n * m) (value-slots (stamps cs)) (o .values) (ran .value) (sym (ran .carried-many)) values-few (room .value) in
+      let u = zeroed-cleared (terms .processes * m) (value-slots (stamps cs)) (o .values) (ran .value) (sym (ran .carried-many)) values-few (room .value) in
       rw p (λ i. record { clocks = x i; masks = y i; values = u i })
 
   -- The same of the Lamport numbers.

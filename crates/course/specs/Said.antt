@@ -1,15 +1,14 @@
--- The paper's outcomes for each case of what is answered here, and the lent work buffers as one.
+-- The paper's outcomes for each case of what is answered here, the lent work buffers as one, and what clearing leaves.
 use Prim.Native.Nat.{ℕ}
 use mathlib.Core.Bool.{cond}
 use mathlib.Core.List.{List, []}
-use lib.ListN.{length}
-use Rattle.clock.specs.Said.{refusal}
 use lib.Dec.{leb}
+use lib.ListN.{length}
 use Rattle.paper.specs.Buffers.{Work, laid, cleared}
 use Rattle.paper.specs.Class.{Classed}
-use Rattle.paper.specs.Event.{events-of}
-use Rattle.paper.specs.Machine.{Clocked, start, clocked}
 use Rattle.paper.specs.Refusals.{Outcome, refused, done}
+use Rattle.paper.specs.Terms.{plain}
+use Rattle.clock.specs.Said.{refusal}
 use Rattle.course.specs.Slots.{named}
 use Rattle.course.specs.declared.Classed as declared-class
 use Rattle.course.specs.declared.Classed.the-variants as class
@@ -27,14 +26,10 @@ abbrev pub judged : declared-judged.Judged → Outcome ℕ
 judged (strict.Refused r) = refused (refusal r)
 judged (strict.Done v) = done v
 
--- The work buffers after a refusal that comes after check 9, where the slots named for m events of n processes are lent.
-abbrev pub late : ℕ → ℕ → Work → Work
-late n m w = cond (named n m (length (w .clocks)) (length (w .masks)) (length (w .values))) (cleared n m w) w
+-- The work buffers once the slots named for m events of n processes are cleared, where they are lent.
+abbrev pub wiped : ℕ → ℕ → Work → Work
+wiped n m w = cond (named n m (length (w .clocks)) (length (w .masks)) (length (w .values))) (cleared (plain n) m w) w
 
--- A work buffer of Lamport numbers after such a refusal, where the slots named for m events are lent.
-abbrev pub late-lamports : ℕ → List ℕ → List ℕ
-late-lamports m numbers = cond (leb m (length numbers)) (laid m [] numbers) numbers
-
--- The accepted events of a list.
-abbrev pub of-list : ℕ → List ℕ → List Clocked
-of-list n list = clocked n start (events-of list)
+-- A further work buffer once its m slots are cleared, where they are lent.
+abbrev pub wiped-slots : ℕ → List ℕ → List ℕ
+wiped-slots m slots = cond (leb m (length slots)) (laid m [] slots) slots

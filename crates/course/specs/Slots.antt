@@ -7,13 +7,11 @@ use lib.ListN.{length, replicate}
 use lib.Seq.{sets}
 use Rattle.paper.specs.Buffers.{Work}
 use Rattle.paper.specs.Clock.{most-processes, most-events}
-use Rattle.offers.specs.Early.{scant}
 
 -- Whether the slots that 9 names for m events of n processes are lent.
 abbrev pub named : ℕ → ℕ → ℕ → ℕ → ℕ → Bool
 named n m clocks masks values =
-    not (ltb most-processes n || ltb most-events m)
-    && not (scant n m (record { clocks = clocks; masks = masks; values = values; answers = m; lamports = m }))
+    not (ltb most-processes n || ltb most-events m) && not (ltb clocks (n * m) || ltb masks m || ltb values (n * m))
 
 -- Room for m offers of n processes, of which k are accepted and carry v values.
 pub record Tail (n m k v : ℕ) (w : Work) : Type 0 where

@@ -4,13 +4,13 @@ mod zero;
 ghost use mathlib.Core.Path.{_≡_};
 ghost use Rattle.paper.specs.Class as paper;
 ghost use Rattle.paper.specs.Questions as questions;
-ghost use Rattle.paper.specs.Refusals.{of-call};
-ghost use Rattle.clock.specs.Said.{refusal};
-ghost use Rattle.course.specs.Said.{work, classed, judged, late, late-lamports};
+ghost use Rattle.clock.specs.Said.{stated};
+ghost use Rattle.course.specs.Said.{work, classed, judged, wiped, wiped-slots};
 ghost use Rattle.course.specs.Slots.{named, Tail, swept};
 use clock::Clock;
 use clock::Position;
 use clock::Refusal;
+use clock::Terms;
 
 // What class mode answers: how many events are accepted, and how many values their stamps carry.
 pub enum Classed {
@@ -22,16 +22,6 @@ pub enum Classed {
 pub enum Judged {
     Refused(Refusal),
     Done(usize),
-}
-
-// A refusal that concerns no event.
-fn of_call(number: u8) -> Refusal
-    ensures { λ r. ⌜ refusal r ≡ of-call number ⌝ }
-{
-    Refusal {
-        number: number,
-        position: Position(0),
-    }
 }
 
 // The named slots behind those of k accepted events and their v carried values are set to 0.
@@ -66,7 +56,7 @@ fn is_lent(n: usize, m: usize, clocks: usize, masks: usize, values: usize) -> bo
 // What a later refusal does: the slots named for m events of n processes are set to 0, where they are lent.
 pub fn clear(n: usize, m: usize, clocks: &mut [u16], masks: &mut [u32], values: &mut [u16])
     ensures { λ _. ⌜ work (now (clocks .exit)) (now (masks .exit)) (now (values .exit))
-        ≡ late n m (work (now (clocks .entry)) (now (masks .entry)) (now (values .entry))) ⌝ }
+        ≡ wiped n m (work (now (clocks .entry)) (now (masks .entry)) (now (values .entry))) ⌝ }
 {
     if is_lent(n, m, clocks.len(), masks.len(), values.len()) {
         tidy(n, m, 0, 0, clocks, masks, values);
@@ -75,7 +65,7 @@ pub fn clear(n: usize, m: usize, clocks: &mut [u16], masks: &mut [u32], values: 
 
 // The same of the slots named for m Lamport numbers.
 pub fn clear_lamports(m: usize, lamports: &mut [u16])
-    ensures { λ _. ⌜ now (lamports .exit) ≡ late-lamports m (now (lamports .entry)) ⌝ }
+    ensures { λ _. ⌜ now (lamports .exit) ≡ wiped-slots m (now (lamports .entry)) ⌝ }
 {
     if m <= lamports.len() {
         zero::clear16(lamports, 0, m);
@@ -84,7 +74,7 @@ pub fn clear_lamports(m: usize, lamports: &mut [u16])
 
 // Class mode: each offer of the list is tried, and the course goes on; with the Lamport numbers of the accepted events.
 pub fn class_lamport(
-    n: usize,
+    terms: Terms,
     list: &[u8],
     clocks: &mut [u16],
     masks: &mut [u32],
@@ -92,15 +82,15 @@ pub fn class_lamport(
     answers: &mut [u8],
     lamports: &mut [u16],
 ) -> Classed
-    ensures { λ r. ⌜ ((classed r, work (now (clocks .exit)) (now (masks .exit)) (now (values .exit)), now (answers .exit)), now (lamports .exit))
-        ≡ paper.class-lamport n (now (list .entry)) (work (now (clocks .entry)) (now (masks .entry)) (now (values .entry))) (now (answers .entry)) (now (lamports .entry)) ⌝ }
+    ensures { λ r. ⌜ ((classed r, work (now (clocks .exit)) (now (masks .exit)) (now (values .exit))), now (answers .exit), now (lamports .exit))
+        ≡ paper.class-lamport (stated terms) (now (list .entry)) (work (now (clocks .entry)) (now (masks .entry)) (now (values .entry))) (now (answers .entry)) (now (lamports .entry)) ⌝ }
 {
-    let t = offers::run(false, n, list, clocks, masks, values, answers, lamports);
+    let t = offers::run(false, terms, list, clocks, masks, values, answers, lamports);
     if t.number != 0 {
-        return Classed::Refused(of_call(t.number));
+        return Classed::Refused(Refusal::of_call(t.number));
     }
     tidy(
-        n,
+        terms.processes,
         list.len() / 8,
         t.accepted,
         t.carried,
@@ -114,23 +104,23 @@ pub fn class_lamport(
 
 // Class mode where no Lamport numbers are asked for.
 pub fn class(
-    n: usize,
+    terms: Terms,
     list: &[u8],
     clocks: &mut [u16],
     masks: &mut [u32],
     values: &mut [u16],
     answers: &mut [u8],
 ) -> Classed
-    ensures { λ r. ⌜ (classed r, work (now (clocks .exit)) (now (masks .exit)) (now (values .exit)), now (answers .exit))
-        ≡ paper.class n (now (list .entry)) (work (now (clocks .entry)) (now (masks .entry)) (now (values .entry))) (now (answers .entry)) ⌝ }
+    ensures { λ r. ⌜ ((classed r, work (now (clocks .exit)) (now (masks .exit)) (now (values .exit))), now (answers .exit))
+        ≡ paper.class (stated terms) (now (list .entry)) (work (now (clocks .entry)) (now (masks .entry)) (now (values .entry))) (now (answers .entry)) ⌝ }
 {
     let mut lamports = [0u16; 512];
-    class_lamport(n, list, clocks, masks, values, answers, &mut lamports)
+    class_lamport(terms, list, clocks, masks, values, answers, &mut lamports)
 }
 
 // The strict course: the first refused event refuses the list; with the Lamport numbers of an accepted one.
 pub fn strict_lamport(
-    n: usize,
+    terms: Terms,
     list: &[u8],
     clocks: &mut [u16],
     masks: &mut [u32],
@@ -138,39 +128,54 @@ pub fn strict_lamport(
     lamports: &mut [u16],
 ) -> Judged
     ensures { λ r. ⌜ ((judged r, work (now (clocks .exit)) (now (masks .exit)) (now (values .exit))), now (lamports .exit))
-        ≡ questions.strict-lamport n (now (list .entry)) (work (now (clocks .entry)) (now (masks .entry)) (now (values .entry))) (now (lamports .entry)) ⌝ }
+        ≡ questions.strict-lamport (stated terms) (now (list .entry)) (work (now (clocks .entry)) (now (masks .entry)) (now (values .entry))) (now (lamports .entry)) ⌝ }
 {
     let mut answers = [0u8; 512];
-    let t = offers::run(true, n, list, clocks, masks, values, &mut answers, lamports);
+    let t = offers::run(
+        true,
+        terms,
+        list,
+        clocks,
+        masks,
+        values,
+        &mut answers,
+        lamports,
+    );
     if t.number != 0 {
-        return Judged::Refused(of_call(t.number));
+        return Judged::Refused(Refusal::of_call(t.number));
     }
     let m = list.len() / 8;
     if t.accepted == t.tried {
-        tidy(n, m, t.accepted, t.carried, clocks, masks, values);
+        tidy(
+            terms.processes,
+            m,
+            t.accepted,
+            t.carried,
+            clocks,
+            masks,
+            values,
+        );
         zero::clear16(lamports, t.accepted, m);
         return Judged::Done(t.carried);
     }
-    tidy(n, m, 0, 0, clocks, masks, values);
+    tidy(terms.processes, m, 0, 0, clocks, masks, values);
     zero::clear16(lamports, 0, m);
     let at = t.tried - 1;
-    Judged::Refused(Refusal {
-        number: answers[at],
-        position: Position(at),
-    })
+    let number = answers[at];
+    Judged::Refused(Refusal::of_event(number, Position(at)))
 }
 
 // The strict course where no Lamport numbers are asked for.
 pub fn strict(
-    n: usize,
+    terms: Terms,
     list: &[u8],
     clocks: &mut [u16],
     masks: &mut [u32],
     values: &mut [u16],
 ) -> Judged
     ensures { λ r. ⌜ (judged r, work (now (clocks .exit)) (now (masks .exit)) (now (values .exit)))
-        ≡ questions.strict n (now (list .entry)) (work (now (clocks .entry)) (now (masks .entry)) (now (values .entry))) ⌝ }
+        ≡ questions.strict (stated terms) (now (list .entry)) (work (now (clocks .entry)) (now (masks .entry)) (now (values .entry))) ⌝ }
 {
     let mut lamports = [0u16; 512];
-    strict_lamport(n, list, clocks, masks, values, &mut lamports)
+    strict_lamport(terms, list, clocks, masks, values, &mut lamports)
 }

@@ -2,7 +2,7 @@
 use mathlib.Core.Path.{sym, _∙_}
 use denote.Ref.{now}
 use Rattle.course.specs.Said.{work}
-use Rattle.course.proofs.Emptied.{room, wiped, kept}
+use Rattle.course.proofs.Emptied.{room, swept-wiped, kept}
 use borrow.Author.Needs.{needs}
 use Rattle.course.proofs.clear.Statement.{statement}
 use Rattle.course.proofs.clear.Tie as tie
@@ -22,7 +22,7 @@ returns c =
     let t = c .before .before .before .before .before .before in
     let b = are-lent (t .before) in
     let a = entry b .args in
-    t .tidy .ensures ∙ wiped (a .n) (a .m) (work (now (a .clocks)) (now (a .masks)) (now (a .values))) (sym (b .before .is-lent .ensures) ∙ b .if1 .taken)
+    t .tidy .ensures ∙ swept-wiped (a .n) (a .m) (work (now (a .clocks)) (now (a .masks)) (now (a .values))) (sym (b .before .is-lent .ensures) ∙ b .if1 .taken)
 
 returns-2 : tie.Need-returns-2
 returns-2 c =

@@ -2,13 +2,14 @@
 use mathlib.Core.Path.{ap, _∙_}
 use Prim.Native.Nat.{ℕ}
 use lib.ListN.{length-replicate}
-use Rattle.course.proofs.StrictCourse.{strict-unasked}
+use native.Mathlib.Omega.{arith}
+use Rattle.paper.proofs.Ample.{strict-unasked}
 use borrow.Author.Needs.{needs}
 use Rattle.course.proofs.strict.Statement.{statement}
 use Rattle.course.proofs.strict.Tie as tie
 
 returns : tie.Need-returns
-returns c = ap (λ p. p .0) (c .before .before .before .before .before .before .before .strict-lamport .ensures) ∙ strict-unasked _ _ _ _ (length-replicate {A = ℕ} 512 0)
+returns c = ap (λ p. p .0) (c .before .before .before .before .before .before .before .strict-lamport .ensures) ∙ strict-unasked _ (omega (arith, length-replicate {A = ℕ} 512 0)) _ _ _
 
 pub strict-spec : {M : Type 1} → statement M
 strict-spec =

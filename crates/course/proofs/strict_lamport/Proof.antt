@@ -1,6 +1,7 @@
 -- The strict course: what the course of offers left behind and what was tidied, put together by the laws of `StrictCourse`.
 use native.Mathlib.Omega.{arith}
-use mathlib.Core.Path.{refl}
+use mathlib.Core.Path.{refl, ap}
+use Rattle.paper.specs.Refusals.{Refusal}
 use Rattle.course.proofs.Tidied.{tail, whole-tail, numbers-tail}
 use Rattle.course.proofs.StrictCourse.{strict-kept, some-tried, strict-ran, strict-stopped}
 use borrow.Author.Needs.{needs}
@@ -66,8 +67,8 @@ sub-at c =
     let e = refused b in
     some-tried (ran e .run .ensures) (e .if1 .left) (b .if2 .left) .0
 
-array-read-t44 : tie.Need-array-read-t44
-array-read-t44 c =
+array-read-number : tie.Need-array-read-number
+array-read-number c =
     let b = part (emptied (cleared c .before) .before) in
     let e = refused b in
     let t = some-tried (ran e .run .ensures) (e .if1 .left) (b .if2 .left) in
@@ -75,11 +76,12 @@ array-read-t44 c =
 
 returns-3 : tie.Need-returns-3
 returns-3 c =
-    let l = cleared c in
+    let l = cleared (c .before) in
+    let g = c .of-event .ensures in
     let t = emptied (l .before) in
     let b = part (t .before) in
     let e = refused b in
-    strict-stopped (ran e .run .ensures) (e .if1 .left) refl (b .if2 .left) refl refl (t .tidy2 .ensures) (l .clear162 .ensures)
+    strict-stopped (ran e .run .ensures) (e .if1 .left) refl (b .if2 .left) (ap (λ (r : Refusal). r .number) g) (ap (λ (r : Refusal). r .position) g) (t .tidy2 .ensures) (l .clear162 .ensures)
 
 pub strict-lamport-spec : {M : Type 1} → statement M
 strict-lamport-spec =
@@ -103,7 +105,8 @@ strict-lamport-spec =
     tidy-requires-2
     clear16-requires-2
     sub-at
-    array-read-t44
+    array-read-number
+    (λ c κs. search needs)
     (λ c. search needs)
     (λ c. search needs)
     (λ c. search needs)
