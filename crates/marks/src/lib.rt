@@ -137,6 +137,6 @@ pub fn mark(
     }
     match sheet::read(sheet, clocks, masks, values) {
         Reading::Refused(r) => Marked::Refused(r),
-        Reading::Accepted(c) => judge(c.processes, c.size / 8, lines, clocks, masks, values, marks),
+        Reading::Done(c) => judge(c.processes, c.size / 8, lines, clocks, masks, values, marks),
     }
 }

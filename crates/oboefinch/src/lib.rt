@@ -34,7 +34,7 @@ pub extern "C" fn oboefinch_read(
 {
     match sheet::read(sheet, clocks, masks, values) {
         Reading::Refused(r) => pack::refusal(r),
-        Reading::Accepted(c) => pack::fields(0, c.processes, c.size / 8, c.carried),
+        Reading::Done(c) => pack::fields(0, c.processes, c.size / 8, c.carried),
     }
 }
 
@@ -53,7 +53,7 @@ pub extern "C" fn oboefinch_read_lamport(
 {
     match sheet::read_lamport(sheet, clocks, masks, values, lamports) {
         Reading::Refused(r) => pack::refusal(r),
-        Reading::Accepted(a) => pack::fields(0, a.processes, a.size / 8, a.carried),
+        Reading::Done(a) => pack::fields(0, a.processes, a.size / 8, a.carried),
     }
 }
 

@@ -72,7 +72,7 @@ pub fn count(sheet: &[u8], clocks: &mut [u16], masks: &mut [u32], values: &mut [
 {
     match sheet::read(sheet, clocks, masks, values) {
         Reading::Refused(r) => Counted::Refused(r),
-        Reading::Accepted(c) => {
+        Reading::Done(c) => {
             let from = c.offset;
             let sends = sends_in(&sheet[from..from + c.size]);
             Counted::Of(Counts {

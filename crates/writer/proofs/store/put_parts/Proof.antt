@@ -1,35 +1,46 @@
-use native.Mathlib.Omega.{arith}
 use borrow.Author.Needs.{needs}
-use Rattle.paper.specs.Bytes.{four-bytes}
-use Rattle.writer.proofs.Stored.{join}
 use Rattle.writer.proofs.store.put_parts.Statement.{statement}
 use Rattle.writer.proofs.store.put_parts.Tie as tie
+use Rattle.writer.proofs.store.put_parts.Reads as reads
+use Rattle.writer.proofs.store.put_parts.Lts as lts
+use Rattle.octets.proofs.store.put_four.Reads as put-four-reads
 
+-- src/store.rt:95:9
+put-four-requires : tie.Need-put-four-requires
+put-four-requires c κs = search needs
+
+-- src/store.rt:96:9
 put-four-requires-2 : tie.Need-put-four-requires-2
-unfolding four-bytes
-put-four-requires-2 c κs = omega arith
+put-four-requires-2 c κs = search needs
 
+-- src/store.rt:97:30
+add-put-four : tie.Need-add-put-four
+add-put-four c = search needs
+
+-- src/store.rt:97:9
 put-four-requires-3 : tie.Need-put-four-requires-3
-unfolding four-bytes
-put-four-requires-3 c κs = omega arith
+put-four-requires-3 c κs = search needs
 
+-- src/store.rt:98:5
 put-four-requires-4 : tie.Need-put-four-requires-4
-unfolding four-bytes
-put-four-requires-4 c κs = omega arith
+put-four-requires-4 c κs = search needs
 
+-- src/store.rt:91:1
+same-length : tie.Need-same-length
+same-length c = search needs
+
+-- src/store.rt:91:1
 returns : tie.Need-returns
-returns c =
-    let d = c .before .before .before .before .before .before .before .before .before .before in
-    join (join (join (d .before .before .before .before .put-four .ensures) (d .put-four2 .ensures)) (c .before .before .before .before .before .before .put-four3 .ensures)) (c .before .before .put-four4 .ensures)
+returns c = ?
 
 pub put-parts-spec : {M : Type 1} → statement M
 put-parts-spec =
     tie.close
     (tie.spec
-    (λ c κs. search needs)
+    put-four-requires
     put-four-requires-2
-    (λ c. search needs)
+    add-put-four
     put-four-requires-3
     put-four-requires-4
-    (λ c. search needs)
+    same-length
     returns)
