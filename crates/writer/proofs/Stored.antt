@@ -8,7 +8,7 @@ use lib.Count.{ones}
 use lib.ListN.{length, getD}
 use Rattle.clock.specs.Event.{kind-at}
 use Rattle.octets.specs.Appended.{Appended}
-use Rattle.octets.proofs.Appended.{none, join}
+use Rattle.octets.proofs.Appended.{none, long, join}
 use Rattle.paper.specs.Buffers.{all-ones, values-begin}
 use Rattle.paper.specs.Bytes.{two-bytes, four-bytes}
 use Rattle.paper.specs.Event.{how-many}
@@ -34,16 +34,18 @@ stored-stamp m v k vs p e f a b = join (rw e at a) (rw f at b)
 pub record Putting (l list masks vs : List ℕ) (at to place i : ℕ) (out : List ℕ) : Type 0 where
   pub within : i ≤ how-many list
   pub begin : place ≡ values-begin masks i
+  pub lent : length out < 2 ^ 64
+  pub reached : to < 2 ^ 64
   pub rest :
       (r : ℕ) (x : List ℕ) → Appended out to (flatten (pieces-from list masks vs (how-many list - i) i)) r x
       → Appended l at (slot-stamps list masks vs) r x
 
 module _ (l list masks vs : List ℕ) (slots : Slots list masks vs) (at : ℕ) where
-  pub put-start : Putting l list masks vs at at 0 0 l
+  pub put-start : length l < 2 ^ 64 → at < 2 ^ 64 → Putting l list masks vs at at 0 0 l
   unfolding all-ones
-  put-start =
+  put-start short small =
       let e : how-many list - 0 ≡ how-many list = omega arith in
-      record { within = omega arith; begin = refl; rest = λ r x a. rw e at a }
+      record { within = omega arith; begin = refl; lent = short; reached = small; rest = λ r x a. rw e at a }
 
   module _ (to place i : ℕ) (out : List ℕ) (w : Putting l list masks vs at to place i out) where
     pub put-fits : i < how-many list → place + ones (getD masks i 0) ≤ length vs
@@ -59,9 +61,11 @@ module _ (l list masks vs : List ℕ) (slots : Slots list masks vs) (at : ℕ) w
         record {
           within = omega arith;
           begin = rw (w .begin, g) (sym (begin-more masks i (omega (arith, slots .each-mask))));
+          lent = omega (arith, long a, w .lent);
+          reached = omega (arith, a .place);
           rest = λ p y b. w .rest p y (rw (e, ← w .begin, ← q) (join a (rw add-one at b)));
         }
 
-    pub put-end : how-many list ≤ i → length out < 2 ^ 64 → to < 2 ^ 64 → Appended l at (slot-stamps list masks vs) to out
+    pub put-end : how-many list ≤ i → Appended l at (slot-stamps list masks vs) to out
     unfolding pieces-from flatten
-    put-end h short small = let e : how-many list - i ≡ 0 = omega arith in w .rest to out (rw e (none out to short small))
+    put-end h = let e : how-many list - i ≡ 0 = omega arith in w .rest to out (rw e (none out to (w .lent) (w .reached)))

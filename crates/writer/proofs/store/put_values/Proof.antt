@@ -1,59 +1,40 @@
+use borrow.Author.Needs.{needs}
+use Prim.Native.Nat.{_≤_, _-_}
+use mathlib.Core.List.{flatMap}
+use mathlib.Core.Path.{_≡_}
+use native.Mathlib.Omega.{arith}
+use Rattle.octets.specs.Appended.{Appended}
+use Rattle.octets.proofs.Appended.{none, long}
+use Rattle.sheet.specs.Slots.{value-bytes}
+use Rattle.writer.proofs.Stored.{value-more}
 use Rattle.writer.proofs.store.put_values.Statement.{statement}
 use Rattle.writer.proofs.store.put_values.Tie as tie
-use Rattle.writer.proofs.store.put_values.Reads as reads
-use Rattle.writer.proofs.store.put_values.Lts as lts
-use Rattle.octets.proofs.store.put_two.Reads as put-two-reads
-use Rattle.octets.proofs.width.wide16.Reads as wide16-reads
 
 abbrev Inv-loop : tie.InvT-loop
-Inv-loop out₀ at values place k to₀ j₀ out to j = ?
+Inv-loop out₀ at values place k to₀ j₀ out to j = (j ≤ k) × Appended out₀ at (value-bytes values place j) to out
 
 abbrev μ-loop : tie.MeasureT-loop
-μ-loop out₀ at values place k to₀ j₀ out to j = ?
+μ-loop out₀ at values place k to₀ j₀ out to j = k - j
 
--- src/store.rt:36:5
 loop-holds : tie.Need-loop-holds Inv-loop μ-loop
-loop-holds c = ?
+unfolding flatMap
+loop-holds c = (omega arith, none _ _ (omega arith) (omega arith))
 
--- src/store.rt:37:45
-add-wide16 : tie.Need-add-wide16 Inv-loop μ-loop
-add-wide16 c = ?
-
--- src/store.rt:37:38
-mul-wide16 : tie.Need-mul-wide16 Inv-loop μ-loop
-mul-wide16 c = ?
-
--- src/store.rt:37:38
-shared-slice-read-wide16 : tie.Need-shared-slice-read-wide16 Inv-loop μ-loop
-shared-slice-read-wide16 c = ?
-
--- src/store.rt:37:31
-wide16-requires : tie.Need-wide16-requires Inv-loop μ-loop
-wide16-requires c κs = ?
-
--- src/store.rt:37:9
-put-two-requires : tie.Need-put-two-requires Inv-loop μ-loop
-put-two-requires c κs = ?
-
--- src/store.rt:38:9
-add-j : tie.Need-add-j Inv-loop μ-loop
-add-j c = ?
-
--- src/store.rt:36:5
-loop-less : tie.Need-loop-less Inv-loop μ-loop
-loop-less c = ?
-
--- src/store.rt:36:5
 loop-again : tie.Need-loop-again Inv-loop μ-loop
-loop-again c = ?
+loop-again c =
+    let l = c .before .before .before .before .before .before .before in
+    let a = l .before .before .before .args in (
+      omega arith,
+      value-more (a .values .now) (a .place) (l .loop .j) _ (omega arith) (c .before .before .before .wide16 .ensures .0) (l .loop .inv .1) (c .before .before .put-two .ensures),
+    )
 
--- src/store.rt:30:1
 same-length : tie.Need-same-length Inv-loop μ-loop
-same-length c = ?
+same-length c = long (c .before .loop .inv .1)
 
--- src/store.rt:30:1
 returns : tie.Need-returns Inv-loop μ-loop
-returns c = ?
+returns c =
+    let e : c .before .loop .j ≡ c .before .before .before .before .args .k = omega arith in
+    rw (← e) (c .before .loop .inv .1)
 
 pub put-values-spec : {M : Type 1} → statement M
 put-values-spec =
@@ -62,13 +43,13 @@ put-values-spec =
     Inv-loop
     μ-loop
     loop-holds
-    add-wide16
-    mul-wide16
-    shared-slice-read-wide16
-    wide16-requires
-    put-two-requires
-    add-j
-    loop-less
+    (λ c. search needs)
+    (λ c. search needs)
+    (λ c. search needs)
+    (λ c κs. search needs)
+    (λ c κs. search needs)
+    (λ c. search needs)
+    (λ c. search needs)
     loop-again
     same-length
     returns)

@@ -1,55 +1,37 @@
+use borrow.Author.Needs.{needs}
+use Prim.Native.Nat.{_≤_, _-_, _+_, _*_}
+use mathlib.Core.Path.{_≡_}
+use native.Mathlib.Omega.{arith}
+use Rattle.paper.specs.Event.{how-many}
+use Rattle.writer.specs.Sizes.{size-from, slot-size}
+use Rattle.writer.proofs.Sizes.{size-more, size-end, size-start}
 use Rattle.writer.proofs.store.stamps_size.Statement.{statement}
 use Rattle.writer.proofs.store.stamps_size.Tie as tie
-use Rattle.writer.proofs.store.stamps_size.Reads as reads
-use Rattle.writer.proofs.store.stamps_size.Lts as lts
-use Rattle.clock.proofs.event.kind_at.Reads as kind-at-reads
-use Rattle.sheet.proofs.stamps.piece_size.Reads as piece-size-reads
 
 abbrev Inv-loop : tie.InvT-loop
-Inv-loop list masks m size₀ i₀ size i = ?
+Inv-loop list masks m size₀ i₀ size i = (i ≤ how-many list) × (size + size-from list masks (how-many list - i) i ≡ slot-size list masks) × (size ≤ 68 * i)
 
 abbrev μ-loop : tie.MeasureT-loop
-μ-loop list masks m size₀ i₀ size i = ?
+μ-loop list masks m size₀ i₀ size i = m - i
 
--- src/store.rt:117:5
 loop-holds : tie.Need-loop-holds Inv-loop μ-loop
-loop-holds c = ?
+loop-holds c = (omega arith, size-start _ _, omega arith)
 
--- src/store.rt:118:28
-kind-at-requires : tie.Need-kind-at-requires Inv-loop μ-loop
-kind-at-requires c κs = ?
-
--- src/store.rt:118:56
-mul-piece-size : tie.Need-mul-piece-size Inv-loop μ-loop
-mul-piece-size c = ?
-
--- src/store.rt:118:56
-shared-slice-read-piece-size : tie.Need-shared-slice-read-piece-size Inv-loop μ-loop
-shared-slice-read-piece-size c = ?
-
--- src/store.rt:118:17
-piece-size-requires : tie.Need-piece-size-requires Inv-loop μ-loop
-piece-size-requires c κs = ?
-
--- src/store.rt:118:9
-add-size : tie.Need-add-size Inv-loop μ-loop
-add-size c = ?
-
--- src/store.rt:119:9
-add-i : tie.Need-add-i Inv-loop μ-loop
-add-i c = ?
-
--- src/store.rt:117:5
-loop-less : tie.Need-loop-less Inv-loop μ-loop
-loop-less c = ?
-
--- src/store.rt:117:5
 loop-again : tie.Need-loop-again Inv-loop μ-loop
-loop-again c = ?
+loop-again c =
+    let l = c .before .before .before .before in
+    let a = l .before .before .before .args in
+    let size = rw (c .before .before .kind-at .ensures) at (c .piece-size .ensures .0) in (
+      omega arith,
+      omega (arith, l .loop .inv .1, size-more (a .list .now) (a .masks .now) (l .loop .i) (c .before .before .before .loop-test .taken), size),
+      omega arith,
+    )
 
--- src/store.rt:110:1
 returns : tie.Need-returns Inv-loop μ-loop
-returns c = ?
+returns c =
+    let a = c .before .before .before .before .args in
+    let i = c .before .loop .inv in
+    (omega (arith, i .1, size-end (a .list .now) (a .masks .now) (c .before .loop .i) (c .loop-test .left)), omega arith)
 
 pub stamps-size-spec : {M : Type 1} → statement M
 stamps-size-spec =
@@ -58,12 +40,12 @@ stamps-size-spec =
     Inv-loop
     μ-loop
     loop-holds
-    kind-at-requires
-    mul-piece-size
-    shared-slice-read-piece-size
-    piece-size-requires
-    add-size
-    add-i
-    loop-less
+    (λ c κs. search needs)
+    (λ c. search needs)
+    (λ c. search needs)
+    (λ c κs. search needs)
+    (λ c. search needs)
+    (λ c. search needs)
+    (λ c. search needs)
     loop-again
     returns)
