@@ -32,7 +32,7 @@ fn chain_said(
     );
     match c {
         Chained::Refused(r) => lines::refusal_text(r, out),
-        Chained::Length(k) => lines::chain_text(&chain, k, out),
+        Chained::Done(k) => lines::chain_text(&chain, k, out),
     }
 }
 

@@ -22,7 +22,7 @@ fn verdict_said(
     let c = order::compare(n, list, &mut clocks, &mut masks, &mut values, first, second);
     match c {
         Compared::Refused(r) => lines::refusal_text(r, out),
-        Compared::Judged(v) => lines::verdict_text(v, out),
+        Compared::Done(v) => lines::verdict_text(v, out),
     }
 }
 
