@@ -4,7 +4,7 @@ use borrow.Author.Tests.{ne-eqb, eq-eqb}
 use mathlib.Core.Path.{_≡_, refl, ap}
 use native.Mathlib.Omega.{arith}
 use lib.ListN.{set}
-use Rattle.offers.specs.Numbering.{next-lamport}
+use Rattle.offers.specs.Scaling.{next-lamport}
 use Rattle.offers.proofs.lamport.advance.Statement.{statement}
 use Rattle.offers.proofs.lamport.advance.Tie as tie
 

@@ -68,7 +68,7 @@ offered-requires c κs =
     ready (entry (t .before) .pre) (t .before .loop .inv) (t .loop-test .taken) (s .1) (s .0)
 
 slice-aggregate-advance : tie.Need-slice-aggregate-advance Inv-loop μ-loop
-slice-aggregate-advance c = sym (within c .before .loop .inv .numbered .processes)
+slice-aggregate-advance c = sym (within c .before .loop .inv .scaled .processes)
 
 advance-requires : tie.Need-advance-requires Inv-loop μ-loop
 advance-requires c κs =
