@@ -27,7 +27,7 @@ use Rattle.offers.specs.declared.Tried.{Tried}
 use Rattle.offers.proofs.Early.{lent-512, early-class}
 use Rattle.course.specs.Said.{of-list}
 use Rattle.course.specs.Slots.{zeroed, swept}
-use Rattle.course.proofs.Tidied.{allowed, tidied, numbers-tidied}
+use Rattle.course.proofs.Tidied.{allowed, tidied, lamports-tidied}
 
 -- A refusal up to 9.
 pub early-small : (n : ℕ) (list : List ℕ) (scant : Bool) → list-checks n list scant ≤ 9
@@ -86,7 +86,7 @@ class-ran {n} {list} {w} {w₁} {r} {work′} call z a d =
     let ran = call .passed z in
     let t : r .tried ≡ how-many list = through (ran .ended) in
     class-done n list w {w′ = record { work = work′; answers = w₁ .page .answers }} (sym (early-class n list w) ∙ sym (call .checked) ∙ z) (allowed call z .answer)
-    (rw t at (ran .accepted-many)) (rw t at (ran .carried-many)) (a ∙ rw t at (tidied call z)) (rw t at (ran .answer)) (d ∙ rw t at (numbers-tidied call z))
+    (rw t at (ran .accepted-many)) (rw t at (ran .carried-many)) (a ∙ rw t at (tidied call z)) (rw t at (ran .answer)) (d ∙ rw t at (lamports-tidied call z))
   where
     through : Ended false n (how-many list) list (r .tried) → r .tried ≡ how-many list
     through (inl t) = t .whole

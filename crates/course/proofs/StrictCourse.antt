@@ -8,7 +8,7 @@ use mathlib.Core.Bool.{Bool, true, _||_}
 use mathlib.Core.List.{List, [], _∷_, _++_, append-assoc, append-nil}
 use lib.Dec.{ltb}
 use lib.ListN.{length, getD, replicate, length-replicate}
-use lib.Seq.{sets, getD-at}
+use lib.Seq.{getD-at}
 use borrow.Author.Tests.{ne-eqb}
 use Rattle.paper.specs.Buffers.{Work, short, laid, entries, filled, cleared}
 use Rattle.paper.specs.Class.{list-checks}
@@ -32,7 +32,7 @@ use Rattle.offers.proofs.Early.{lent-512, early-list}
 use Rattle.course.specs.Said.{of-list}
 use Rattle.course.specs.Slots.{zeroed, swept}
 use Rattle.course.proofs.ClassMode.{early-small}
-use Rattle.course.proofs.Tidied.{allowed, tidied, emptied, numbers-tidied, numbers-emptied}
+use Rattle.course.proofs.Tidied.{allowed, tidied, emptied, lamports-tidied, lamports-emptied}
 
 -- The first refused offer of a list, the one behind j accepted ones.
 refused-first :
@@ -138,7 +138,7 @@ module _ {n : ℕ} {list : List ℕ} {w w₁ : Slots} {r : Tried} (call : Called
         let t = ended .0 q in
         let i : r .tried ≡ m₁ = t .whole in
         strict-done n list (w .page .work) (w .lamports) passed (rw i at (t .sound refl)) (rw i at (ran .carried-many))
-        (a ∙ rw i at (tidied call z)) (d ∙ rw i at (numbers-tidied call z))
+        (a ∙ rw i at (tidied call z)) (d ∙ rw i at (lamports-tidied call z))
 
     pub strict-stopped : {given : Refusal} {work′ : Work} {numbers′ : List ℕ} → r .accepted ≢ r .tried → given .number ≡ getD (w₁ .page .answers) (r .tried - 1) 0 → given .position ≡ r .tried - 1
         → work′ ≡ swept n m₁ 0 0 (w₁ .page .work) → numbers′ ≡ zeroed 0 m₁ (w₁ .lamports)
@@ -157,7 +157,7 @@ module _ {n : ℕ} {list : List ℕ} {w w₁ : Slots} {r : Tried} (call : Called
         ∙ rw zero-add at (getD-sets (w .page .answers) (answers-at n list (r .tried)) 0 j (omega (arith, ran .inside, allowed call z .answer)) (omega (arith, s .behind)))
         ∙ ap (λ (t : List ℕ). getD t j 0) xs ∙ getD-at (replicate j 0) x [] 0 j (length-replicate j 0) in
         strict-late n list (w .page .work) (w .lamports) passed (omega (arith, s .behind, ran .inside)) (s .before) (s .refused)
-        (en ∙ ap (λ (i : ℕ). getD (w₁ .page .answers) i 0) d ∙ there) (ep ∙ d) (a ∙ emptied call z) (d₀ ∙ numbers-emptied call z)
+        (en ∙ ap (λ (i : ℕ). getD (w₁ .page .answers) i 0) d ∙ there) (ep ∙ d) (a ∙ emptied call z) (d₀ ∙ lamports-emptied call z)
 
 -- Where 512 slots are lent for Lamport numbers, the call that does not ask for them answers as before.
 pub strict-unasked : (n : ℕ) (list : List ℕ) (w : Work) (numbers : List ℕ) → length numbers ≡ 512 → strict-lamport n list w numbers .0 ≡ strict n list w

@@ -7,7 +7,7 @@ use mathlib.Core.Bool.{Bool}
 use mathlib.Core.List.{List, [], flatMap}
 use lib.ListN.{length, replicate}
 use lib.Seq.{sets, length-sets}
-use Rattle.paper.specs.Buffers.{Work, laid, clock-slots, mask-slots, value-slots, filled, cleared}
+use Rattle.paper.specs.Buffers.{laid, clock-slots, mask-slots, value-slots, filled, cleared}
 use Rattle.paper.specs.Event.{first-events, how-many}
 use Rattle.paper.specs.Lamport.{no-scalars, lamports}
 use Rattle.paper.specs.Machine.{Clocked, start}
@@ -77,8 +77,8 @@ module _ {mode : Bool} {n : ℕ} {l : List ℕ} {w₀ w : Slots} {r : Tried} (ca
   values-few : v ≤ n * m
   values-few = omega (arith, ran .carried-many, fit .values, ap (_*_ n) (ran .accepted-many), used)
 
-  numbers-many : length (lamports cs) ≡ k
-  numbers-many = length-lamports cs no-scalars ∙ sym (ran .accepted-many)
+  lamports-many : length (lamports cs) ≡ k
+  lamports-many = length-lamports cs no-scalars ∙ sym (ran .accepted-many)
 
   -- The slots behind what was stored can be cleared; and so can all named ones.
   pub tail : Tail n m k v (w .page .work)
@@ -98,8 +98,8 @@ module _ {mode : Bool} {n : ℕ} {l : List ℕ} {w₀ w : Slots} {r : Tried} (ca
       let t = tail in
       record { few = t .few; short = t .short; accepted = omega arith; carried = omega arith; clock = t .clock; mask = t .mask; value = t .value }
 
-  pub numbers-tail : (k ≤ m) × (m ≤ length (w .lamports))
-  numbers-tail = (few, rw (ran .lamport, length-sets) (room .lamport))
+  pub lamports-tail : (k ≤ m) × (m ≤ length (w .lamports))
+  lamports-tail = (few, rw (ran .lamport, length-sets) (room .lamport))
 
   pub tidied : swept n m k v (w .page .work) ≡ filled n m cs (w₀ .page .work)
   unfolding filled
@@ -121,8 +121,8 @@ module _ {mode : Bool} {n : ℕ} {l : List ℕ} {w₀ w : Slots} {r : Tried} (ca
       rw p (λ i. record { clocks = x i; masks = y i; values = u i })
 
   -- The same of the Lamport numbers.
-  pub numbers-tidied : zeroed k m (w .lamports) ≡ laid m (lamports cs) (w₀ .lamports)
-  numbers-tidied = zeroed-laid m (lamports cs) (w₀ .lamports) (ran .lamport) numbers-many few (room .lamport)
+  pub lamports-tidied : zeroed k m (w .lamports) ≡ laid m (lamports cs) (w₀ .lamports)
+  lamports-tidied = zeroed-laid m (lamports cs) (w₀ .lamports) (ran .lamport) lamports-many few (room .lamport)
 
-  pub numbers-emptied : zeroed 0 m (w .lamports) ≡ laid m [] (w₀ .lamports)
-  numbers-emptied = zeroed-cleared m (lamports cs) (w₀ .lamports) (ran .lamport) numbers-many few (room .lamport)
+  pub lamports-emptied : zeroed 0 m (w .lamports) ≡ laid m [] (w₀ .lamports)
+  lamports-emptied = zeroed-cleared m (lamports cs) (w₀ .lamports) (ran .lamport) lamports-many few (room .lamport)

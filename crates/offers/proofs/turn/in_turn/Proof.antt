@@ -1,8 +1,7 @@
 -- The loop over the offers. Its invariant is `Underway`: the tables, the records and the lent slots stand for the run of the plain machine over the
 -- offers tried so far; each turn is one law of `Going`, at places that are named once.
-use borrow.Author.Needs.{needs}
 use mathlib.Core.Path.{refl, sym, ap}
-use Prim.Native.Nat.{_-_, _<_}
+use Prim.Native.Nat.{_-_}
 use native.Mathlib.Omega.{arith}
 use Rattle.offers.specs.Slots.{slots}
 use Rattle.offers.specs.Tables.{tables}

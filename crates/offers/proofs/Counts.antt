@@ -1,0 +1,19 @@
+-- How many events are accepted: as many as there are stamps, and no more than offers.
+use Prim.Native.Nat.{ℕ, _≤_}
+use mathlib.Core.List.{List}
+use mathlib.Core.Path.{_≡_, ap, _∙_}
+use native.Mathlib.Omega.{arith}
+use lib.ListN.{length}
+use Rattle.paper.specs.Event.{first-events}
+use Rattle.paper.specs.Machine.{start}
+use Rattle.paper.specs.Stamp.{never-sent}
+use Rattle.paper.proofs.Agreement.{agreement-list}
+use Rattle.paper.proofs.Laws.Runs.{clocked-few, length-events}
+use Rattle.paper.proofs.Laws.Slots.{length-stamps}
+use Rattle.offers.specs.Turn.{stamps-at, accepted-at}
+
+pub stamps-many : {n : ℕ} → n ≤ 32 → (l : List ℕ) (i : ℕ) → length (stamps-at n l i) ≡ length (accepted-at n l i)
+stamps-many {n} few l i = ap length (agreement-list n few (first-events i l)) ∙ length-stamps (accepted-at n l i) never-sent
+
+pub accepted-few : (n : ℕ) (l : List ℕ) (i : ℕ) → length (accepted-at n l i) ≤ i
+accepted-few n l i = omega (arith, clocked-few n (first-events i l) start, length-events i l)
