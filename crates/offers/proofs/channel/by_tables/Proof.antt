@@ -1,3 +1,4 @@
+-- 14 to 16: a receive is judged by `waits`, a send by whether its number is found, and any other event passes.
 use Rattle.offers.proofs.ByTables.{tables-used, tables-free}
 use borrow.Author.Needs.{needs}
 use Rattle.offers.proofs.channel.by_tables.Statement.{statement}
