@@ -7,7 +7,7 @@ use mathlib.Core.Bool.{Bool}
 use mathlib.Core.List.{List, [], flatMap}
 use lib.ListN.{length, replicate}
 use lib.Seq.{sets, length-sets}
-use Rattle.paper.specs.Buffers.{Work, laid, clock-slots, mask-slots, value-slots, filled, cleared}
+use Rattle.paper.specs.Buffers.{laid, clock-slots, mask-slots, value-slots, filled, cleared}
 use Rattle.paper.specs.Event.{first-events, how-many}
 use Rattle.paper.specs.Lamport.{no-scalars, lamports}
 use Rattle.paper.specs.Machine.{Clocked, start}
@@ -75,8 +75,8 @@ module _ {mode : Bool} {terms : Terms} {l : List ℕ} {w₀ w : Slots} {r : Trie
   values-few : v ≤ terms .processes * m
   values-few = omega (arith, ran .carried-many, fit .values, ap (_*_ (terms .processes)) (ran .accepted-many), used)
 
-  numbers-many : length (lamports cs) ≡ k
-  numbers-many = length-lamports cs no-scalars ∙ sym (ran .accepted-many)
+  lamports-many : length (lamports cs) ≡ k
+  lamports-many = length-lamports cs no-scalars ∙ sym (ran .accepted-many)
 
   -- The slots behind what was stored can be cleared; and so can all named ones.
   pub tail : Tail (terms .processes) m k v (w .page .work)
@@ -96,8 +96,8 @@ module _ {mode : Bool} {terms : Terms} {l : List ℕ} {w₀ w : Slots} {r : Trie
       let t = tail in
       record { few = t .few; short = t .short; accepted = omega arith; carried = omega arith; clock = t .clock; mask = t .mask; value = t .value }
 
-  pub numbers-tail : (k ≤ m) × (m ≤ length (w .lamports))
-  numbers-tail = (few, rw (ran .lamport, length-sets) (room .lamport))
+  pub lamports-tail : (k ≤ m) × (m ≤ length (w .lamports))
+  lamports-tail = (few, rw (ran .lamport, length-sets) (room .lamport))
 
   pub tidied : swept (terms .processes) m k v (w .page .work) ≡ filled terms m cs (w₀ .page .work)
   unfolding filled
@@ -119,8 +119,8 @@ module _ {mode : Bool} {terms : Terms} {l : List ℕ} {w₀ w : Slots} {r : Trie
       rw p (λ i. record { clocks = x i; masks = y i; values = u i })
 
   -- The same of the Lamport numbers.
-  pub numbers-tidied : zeroed k m (w .lamports) ≡ laid m (lamports cs) (w₀ .lamports)
-  numbers-tidied = zeroed-laid m (lamports cs) (w₀ .lamports) (ran .lamport) numbers-many few (room .lamport)
+  pub lamports-tidied : zeroed k m (w .lamports) ≡ laid m (lamports cs) (w₀ .lamports)
+  lamports-tidied = zeroed-laid m (lamports cs) (w₀ .lamports) (ran .lamport) lamports-many few (room .lamport)
 
-  pub numbers-emptied : zeroed 0 m (w .lamports) ≡ laid m [] (w₀ .lamports)
-  numbers-emptied = zeroed-cleared m (lamports cs) (w₀ .lamports) (ran .lamport) numbers-many few (room .lamport)
+  pub lamports-emptied : zeroed 0 m (w .lamports) ≡ laid m [] (w₀ .lamports)
+  lamports-emptied = zeroed-cleared m (lamports cs) (w₀ .lamports) (ran .lamport) lamports-many few (room .lamport)

@@ -1,5 +1,5 @@
 -- Class mode: what the course of offers left behind and what was tidied, put together by the laws of `ClassMode`.
-use Rattle.course.proofs.Tidied.{tail, numbers-tail}
+use Rattle.course.proofs.Tidied.{tail, lamports-tail}
 use Rattle.course.proofs.ClassMode.{class-kept, class-ran}
 use borrow.Author.Needs.{needs}
 use Rattle.course.proofs.class_lamport.Statement.{statement}
@@ -25,7 +25,7 @@ tidy-requires : tie.Need-tidy-requires
 tidy-requires c κs = let e = passed c in tail (ran e .run .ensures) (e .if1 .left)
 
 clear16-requires : tie.Need-clear16-requires
-clear16-requires c κs = let e = passed (tidied c .before) in numbers-tail (ran e .run .ensures) (e .if1 .left)
+clear16-requires c κs = let e = passed (tidied c .before) in lamports-tail (ran e .run .ensures) (e .if1 .left)
 
 returns-2 : tie.Need-returns-2
 returns-2 c =

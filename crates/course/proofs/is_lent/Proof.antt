@@ -1,3 +1,4 @@
+-- Whether the named slots are lent: the counts are looked at first, so that the products fit.
 use native.Mathlib.Nat.{mul-le-mul}
 use native.Mathlib.Omega.{arith}
 use Rattle.course.proofs.Emptied.{few}

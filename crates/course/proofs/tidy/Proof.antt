@@ -10,11 +10,11 @@ use Rattle.course.proofs.tidy.Tie as tie
 abbrev entry : tie.After-clear16-arg → tie.Start
 entry c = c .before .before .before .before
 
-abbrev first : tie.After-clear32-arg → tie.After-clear16
-first c = c .before .before .before
+abbrev clocks-done : tie.After-clear32-arg → tie.After-clear16
+clocks-done c = c .before .before .before
 
-abbrev second : tie.After-clear16-arg2 → tie.After-clear32
-second c = c .before .before .before
+abbrev masks-done : tie.After-clear16-arg2 → tie.After-clear32
+masks-done c = c .before .before .before
 
 mul-clear16 : tie.Need-mul-clear16
 mul-clear16 c = let p = products (entry c .pre) in omega (arith, p .used, p .small)
@@ -26,19 +26,19 @@ clear16-requires : tie.Need-clear16-requires
 clear16-requires c κs = let t = entry c .pre in (products t .used, t .clock)
 
 clear32-requires : tie.Need-clear32-requires
-clear32-requires c κs = let t = entry (first c .before) .pre in (t .accepted, t .mask)
+clear32-requires c κs = let t = entry (clocks-done c .before) .pre in (t .accepted, t .mask)
 
 mul-clear16-3 : tie.Need-mul-clear16-3
-mul-clear16-3 c = omega (arith, products (entry (first (second c .before) .before) .pre) .small)
+mul-clear16-3 c = omega (arith, products (entry (clocks-done (masks-done c .before) .before) .pre) .small)
 
 clear16-requires-2 : tie.Need-clear16-requires-2
-clear16-requires-2 c κs = let t = entry (first (second c .before) .before) .pre in (t .carried, t .value)
+clear16-requires-2 c κs = let t = entry (clocks-done (masks-done c .before) .before) .pre in (t .carried, t .value)
 
 returns : tie.Need-returns
 returns c =
     let v = c .before .before in
-    let m = second (v .before) in
-    let k = first (m .before) in
+    let m = masks-done (v .before) in
+    let k = clocks-done (m .before) in
     λ i. work (k .clear16 .ensures i) (m .clear32 .ensures i) (v .clear162 .ensures i)
 
 pub tidy-spec : {M : Type 1} → statement M

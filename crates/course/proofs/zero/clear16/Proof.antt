@@ -1,3 +1,4 @@
+-- Slots set to 0: the invariant and its laws are those of `Clearing`, whatever the width.
 use borrow.Author.Needs.{needs}
 use Prim.Native.Nat.{_-_}
 use Rattle.course.proofs.Clearing.{Cleared, clear-start, clear-more, clear-end}

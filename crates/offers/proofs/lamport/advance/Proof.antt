@@ -1,10 +1,10 @@
 -- LC1 and LC2 at an accepted event: `one_up` gives one more than the larger of the process's number and the message's, which both are small.
 use borrow.Author.Needs.{needs}
 use borrow.Author.Tests.{ne-eqb, eq-eqb}
-use mathlib.Core.Path.{_≡_, refl, ap}
+use mathlib.Core.Path.{_≡_, ap}
 use native.Mathlib.Omega.{arith}
 use lib.ListN.{set}
-use Rattle.offers.specs.Numbering.{next-lamport}
+use Rattle.offers.specs.Scaling.{next-lamport}
 use Rattle.offers.proofs.lamport.advance.Statement.{statement}
 use Rattle.offers.proofs.lamport.advance.Tie as tie
 

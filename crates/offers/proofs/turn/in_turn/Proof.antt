@@ -1,8 +1,7 @@
 -- The loop over the offers. Its invariant is `Underway`: the tables, the records and the lent slots stand for the run of the plain machine over the
 -- offers tried so far; each turn is one law of `Going`, at places that are named once.
-use borrow.Author.Needs.{needs}
 use mathlib.Core.Path.{refl, sym, ap}
-use Prim.Native.Nat.{_-_, _<_}
+use Prim.Native.Nat.{_-_}
 use native.Mathlib.Omega.{arith}
 use Rattle.clock.specs.Said.{stated}
 use Rattle.offers.specs.Slots.{slots}
@@ -69,7 +68,7 @@ offered-requires c κs =
     ready (entry (t .before) .pre) (t .before .loop .inv) (t .loop-test .taken) (s .1) (s .0)
 
 slice-aggregate-advance : tie.Need-slice-aggregate-advance Inv-loop μ-loop
-slice-aggregate-advance c = sym (within c .before .loop .inv .numbered .processes)
+slice-aggregate-advance c = sym (within c .before .loop .inv .scaled .processes)
 
 advance-requires : tie.Need-advance-requires Inv-loop μ-loop
 advance-requires c κs =
