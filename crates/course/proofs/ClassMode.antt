@@ -24,7 +24,7 @@ use Rattle.offers.specs.Slots.{Slots}
 use Rattle.offers.specs.declared.Tried.{Tried}
 use Rattle.offers.proofs.Early.{early-class}
 use Rattle.course.specs.Slots.{zeroed, swept}
-use Rattle.course.proofs.Tidied.{room, tidied, numbers-tidied}
+use Rattle.course.proofs.Tidied.{room, tidied, lamports-tidied}
 
 -- What class mode leaves behind.
 abbrev Ends : Type 0
@@ -74,7 +74,7 @@ class-ran {terms} {list} {w} {w₁} {r} {work′} {numbers′} call z a d =
     let g : r .carried ≡ entries all = rw t at (ran .carried-many) in
     let x : work′ ≡ filled terms m all (w .page .work) = a ∙ rw t at (tidied call z) in
     let y : w₁ .page .answers ≡ xs ++ replicate (m - length xs) 0 ++ drop m old = (rw t at (ran .answer)) ∙ s in
-    let n = d ∙ rw t at (numbers-tidied call z) in
+    let n = d ∙ rw t at (lamports-tidied call z) in
     rw (eq-eqb (c .early) 0 e) (λ i. ((done (record { accepted = f i; carried = g i }), x i), y i, n i))
   where
     through : Ended false terms (how-many list) list (r .tried) → r .tried ≡ how-many list

@@ -28,7 +28,7 @@ use Rattle.offers.specs.Turn.{state-at, accepted-at, answers-at}
 use Rattle.offers.specs.declared.Tried.{Tried}
 use Rattle.offers.proofs.Early.{early-strict}
 use Rattle.course.specs.Slots.{zeroed, swept}
-use Rattle.course.proofs.Tidied.{room, tidied, emptied, numbers-tidied, numbers-emptied}
+use Rattle.course.proofs.Tidied.{room, tidied, emptied, lamports-tidied, lamports-emptied}
 
 -- The first refused offer of a list, the one behind j accepted ones.
 refused-first :
@@ -117,7 +117,7 @@ module _ {terms : Terms} {list : List ℕ} {w w₁ : Slots} {r : Tried} (call : 
         let none : first-refused 0 (answers-at terms list m₁) ≡ of-call 0 = ap (first-refused 0) every ∙ refused-none m₁ 0 in
         let v = rw e at (ran .carried-many) in
         let x = a ∙ rw e at (tidied call z) in
-        let y = d ∙ rw e at (numbers-tidied call z) in
+        let y = d ∙ rw e at (lamports-tidied call z) in
         rw (eq-eqb (c .early) 0 passed, none) (λ i. ((done (v i), x i), y i))
 
     pub strict-stopped : {given : Refusal} {work′ : Work} {numbers′ : List ℕ} → r .accepted ≢ r .tried → given .number ≡ getD (w₁ .page .answers) (r .tried - 1) 0 → given .position ≡ r .tried - 1
@@ -141,5 +141,5 @@ module _ {terms : Terms} {list : List ℕ} {w w₁ : Slots} {r : Tried} (call : 
         let f = en ∙ ap (λ (i : ℕ). getD (w₁ .page .answers) i 0) d ∙ there in
         let g = ep ∙ d in
         let y = a ∙ emptied call z in
-        let o = d₀ ∙ numbers-emptied call z in
+        let o = d₀ ∙ lamports-emptied call z in
         rw (eq-eqb (c .early) 0 passed, refusing, ne-eqb x 0 (s .refused)) (λ i. ((refused (record { number = f i; position = g i }), y i), o i))

@@ -2,7 +2,7 @@
 use native.Mathlib.Omega.{arith}
 use mathlib.Core.Path.{refl, ap}
 use Rattle.paper.specs.Refusals.{Refusal}
-use Rattle.course.proofs.Tidied.{tail, whole-tail, numbers-tail}
+use Rattle.course.proofs.Tidied.{tail, whole-tail, lamports-tail}
 use Rattle.course.proofs.StrictCourse.{strict-kept, some-tried, strict-ran, strict-stopped}
 use borrow.Author.Needs.{needs}
 use Rattle.course.proofs.strict_lamport.Statement.{statement}
@@ -43,7 +43,7 @@ tidy-requires : tie.Need-tidy-requires
 tidy-requires c κs = let e = accepted (whole c) in tail (ran e .run .ensures) (e .if1 .left)
 
 clear16-requires : tie.Need-clear16-requires
-clear16-requires c κs = let e = accepted (whole (tidied c .before)) in numbers-tail (ran e .run .ensures) (e .if1 .left)
+clear16-requires c κs = let e = accepted (whole (tidied c .before)) in lamports-tail (ran e .run .ensures) (e .if1 .left)
 
 returns-2 : tie.Need-returns-2
 returns-2 c =
@@ -59,7 +59,7 @@ tidy-requires-2 c κs = let e = refused (part c) in whole-tail (ran e .run .ensu
 clear16-requires-2 : tie.Need-clear16-requires-2
 clear16-requires-2 c κs =
     let e = refused (part (emptied c .before)) in
-    (omega arith, numbers-tail (ran e .run .ensures) (e .if1 .left) .1)
+    (omega arith, lamports-tail (ran e .run .ensures) (e .if1 .left) .1)
 
 sub-at : tie.Need-sub-at
 sub-at c =
