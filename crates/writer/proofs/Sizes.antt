@@ -4,14 +4,15 @@ use mathlib.Core.List.{List, flatten}
 use mathlib.Core.Path.{_≡_, refl, ap}
 use native.Mathlib.Numerals.{add-one}
 use native.Mathlib.Omega.{arith}
-use lib.ListN.{length, getD, replicate, length-append}
-use Rattle.course.specs.Said.{of-list}
+use lib.ListN.{length, getD, length-append}
 use Rattle.clock.specs.Event.{kind-at}
-use Rattle.paper.specs.Buffers.{Work, values-begin, filled}
+use Rattle.paper.specs.Buffers.{Work, values-begin}
 use Rattle.paper.specs.Bytes.{two-bytes, four-bytes, text}
-use Rattle.paper.specs.Event.{how-many, events-of}
-use Rattle.paper.specs.Machine.{start, answers}
+use Rattle.paper.specs.Event.{how-many}
+use Rattle.paper.specs.Machine.{accepted-of}
 use Rattle.paper.specs.Sheet.{pieces, stamps-part, header, written}
+use Rattle.paper.specs.Stands.{Stands}
+use Rattle.paper.specs.Terms.{Terms}
 use Rattle.sheet.specs.Slots.{kind-piece, kind-size, pieces-from, Slots}
 use Rattle.sheet.proofs.Filled.{slots-there, pieces-there}
 use Rattle.sheet.proofs.Slots.{length-kind-piece, values-there}
@@ -47,21 +48,18 @@ module _ (list masks vs : List ℕ) (slots : Slots list masks vs) where
   pub size-is : length (slot-stamps list masks vs) ≡ slot-size list masks
   size-is = size-rest (how-many list) 0 (omega arith)
 
-module _ (n : ℕ) (list : List ℕ) (ok : answers n start (events-of list) ≡ replicate (length (events-of list)) 0) (w : Work) where
-  abbrev full : Work
-  full = filled n (how-many list) (of-list n list) w
-
-  pub written-there : slot-written n list (full .masks) (full .values) ≡ written n list
+module _ {t : Terms} {list : List ℕ} {w w′ : Work} (s : Stands t list w w′) where
+  pub written-there : slot-written t list (w′ .masks) (w′ .values) ≡ written t list
   unfolding written stamps-part
-  written-there = rw (pieces-there n list ok w)
+  written-there = rw (pieces-there s)
 
   -- What check 21 compares with the length of the output.
-  pub size-there : 24 + length list + slot-size list (full .masks) ≡ length (written n list)
+  pub size-there : 24 + length list + slot-size list (w′ .masks) ≡ length (written t list)
   unfolding written stamps-part header text two-bytes four-bytes
   size-there =
       omega (
         arith,
-        size-is list (full .masks) (full .values) (slots-there n list ok w),
-        ap (λ (ps : List (List ℕ)). length (flatten ps)) (pieces-there n list ok w),
-        length-append list (flatten (pieces (of-list n list))),
+        size-is list (w′ .masks) (w′ .values) (slots-there s),
+        ap (λ (ps : List (List ℕ)). length (flatten ps)) (pieces-there s),
+        length-append list (flatten (pieces (accepted-of t list))),
       )

@@ -5,6 +5,7 @@ use lib.ListN.{length, getD}
 use Rattle.clock.specs.Event.{kind-at}
 use Rattle.paper.specs.Event.{how-many}
 use Rattle.paper.specs.Sheet.{header}
+use Rattle.paper.specs.Terms.{Terms}
 use Rattle.sheet.specs.Slots.{kind-size, slot-pieces}
 
 module _ (list masks : List ℕ) where
@@ -16,9 +17,9 @@ module _ (list masks : List ℕ) where
   abbrev pub slot-size : ℕ
   slot-size = size-from (how-many list) 0
 
--- The stamps of all sends, and the sheet of n processes that is written.
+-- The stamps of all sends, and the sheet that is written.
 abbrev pub slot-stamps : List ℕ → List ℕ → List ℕ → List ℕ
 slot-stamps list masks vs = flatten (slot-pieces list masks vs)
 
-abbrev pub slot-written : ℕ → List ℕ → List ℕ → List ℕ → List ℕ
-slot-written n list masks vs = header n (length list) (length (slot-stamps list masks vs)) ++ (list ++ slot-stamps list masks vs)
+abbrev pub slot-written : Terms → List ℕ → List ℕ → List ℕ → List ℕ
+slot-written terms list masks vs = header terms (length list) (length (slot-stamps list masks vs)) ++ (list ++ slot-stamps list masks vs)

@@ -7,6 +7,7 @@ ghost use lib.ListN.{length};
 ghost use Rattle.paper.specs.Bytes.{two-bytes, four-bytes, text};
 ghost use Rattle.paper.specs.Event.{how-many};
 ghost use Rattle.paper.specs.Sheet.{header};
+ghost use Rattle.clock.specs.Said.{stated};
 ghost use Rattle.octets.specs.Appended.{Appended};
 ghost use Rattle.sheet.specs.Slots.{value-bytes, slot-stamp, kind-piece, Slots};
 ghost use Rattle.writer.specs.Sizes.{slot-size, slot-stamps, slot-written};
@@ -15,6 +16,7 @@ ghost use Rattle.writer.specs.Said.{wrote, laying};
 use super::Wrote;
 use clock::Position;
 use clock::Refusal;
+use clock::Terms;
 use clock::event::SEND;
 use clock::event::kind_at;
 use octets::store::put;
@@ -78,12 +80,14 @@ fn put_pieces(out: &mut [u8], at: usize, list: &[u8], masks: &[u32], values: &[u
 }
 
 // The letters, the process count, the version and two zeros.
-fn put_start(out: &mut [u8], n: u8) -> usize
-    ensures { λ r. ⌜ Appended (now (out .entry)) 0 (text "CKT" ++ (n ∷ []) ++ two-bytes 1 ++ two-bytes 0) r (now (out .exit)) ⌝ }
+fn put_start(out: &mut [u8], terms: Terms) -> usize
+    requires { ⌜ terms .processes < 256 ⌝ }
+    ensures { λ r. ⌜ Appended (now (out .entry)) 0 (text "CKT" ++ (terms .processes ∷ []) ++ two-bytes (terms .version) ++ two-bytes 0) r (now (out .exit)) ⌝ }
 {
+    let n = terms.processes as u8;
     let a = put_all(out, 0, b"CKT");
     let b = put(out, a, n);
-    let c = put_two(out, b, 1);
+    let c = put_two(out, b, terms.version);
     put_two(out, c, 0)
 }
 
@@ -98,11 +102,11 @@ fn put_parts(out: &mut [u8], at: usize, events: usize, stamped: usize) -> usize
     put_four(out, c, stamped)
 }
 
-fn put_header(out: &mut [u8], n: u8, events: usize, stamped: usize) -> usize
-    requires { ⌜ events ≤ 4096 ⌝ }
-    ensures { λ r. ⌜ Appended (now (out .entry)) 0 (header n events stamped) r (now (out .exit)) ⌝ }
+fn put_header(out: &mut [u8], terms: Terms, events: usize, stamped: usize) -> usize
+    requires { ⌜ (terms .processes < 256) × (events ≤ 4096) ⌝ }
+    ensures { λ r. ⌜ Appended (now (out .entry)) 0 (header (stated terms) events stamped) r (now (out .exit)) ⌝ }
 {
-    let at = put_start(out, n);
+    let at = put_start(out, terms);
     put_parts(out, at, events, stamped)
 }
 
@@ -124,40 +128,40 @@ pub(crate) fn stamps_size(list: &[u8], masks: &[u32]) -> usize
 // The whole sheet, whose stamps take `stamped` bytes: the events at 24, the stamps straight after.
 pub(crate) fn put_sheet(
     out: &mut [u8],
-    n: u8,
+    terms: Terms,
     list: &[u8],
     masks: &[u32],
     values: &[u16],
     stamped: usize,
 ) -> usize
-    requires { ⌜ Slots (now list) (now masks) (now values) × (length (now list) ≤ 4096)
+    requires { ⌜ (terms .processes < 256) × Slots (now list) (now masks) (now values) × (length (now list) ≤ 4096)
         × (stamped ≡ slot-size (now list) (now masks)) ⌝ }
-    ensures { λ r. ⌜ Appended (now (out .entry)) 0 (slot-written n (now (list .entry)) (now (masks .entry)) (now (values .entry))) r (now (out .exit)) ⌝ }
+    ensures { λ r. ⌜ Appended (now (out .entry)) 0 (slot-written (stated terms) (now (list .entry)) (now (masks .entry)) (now (values .entry))) r (now (out .exit)) ⌝ }
 {
-    let a = put_header(out, n, list.len(), stamped);
+    let a = put_header(out, terms, list.len(), stamped);
     let b = put_all(out, a, list);
     put_pieces(out, b, list, masks, values)
 }
 
 // 21, or the sheet of a list whose stamps stand in the work buffers.
 pub(crate) fn written(
-    n: usize,
+    terms: Terms,
     list: &[u8],
     clocks: &mut [u16],
     masks: &mut [u32],
     values: &mut [u16],
     out: &mut [u8],
 ) -> Wrote
-    requires { ⌜ (n < 256) × Slots (now list) (now masks) (now values) × (length (now list) ≤ 4096) ⌝ }
-    ensures { λ r. ⌜ (wrote r, work (now (clocks .exit)) (now (masks .exit)) (now (values .exit)), now (out .exit))
-        ≡ laying n (now (list .entry)) (work (now (clocks .entry)) (now (masks .entry)) (now (values .entry))) (now (out .entry)) ⌝ }
+    requires { ⌜ (terms .processes < 256) × Slots (now list) (now masks) (now values) × (length (now list) ≤ 4096) ⌝ }
+    ensures { λ r. ⌜ ((wrote r, work (now (clocks .exit)) (now (masks .exit)) (now (values .exit))), now (out .exit))
+        ≡ laying (stated terms) (now (list .entry)) (work (now (clocks .entry)) (now (masks .entry)) (now (values .entry))) (now (out .entry)) ⌝ }
 {
     let stamped = stamps_size(list, masks);
     let size = 24 + list.len() + stamped;
     if out.len() < size {
-        course::clear(n, list.len() / 8, clocks, masks, values);
+        course::clear(terms.processes, list.len() / 8, clocks, masks, values);
         return Wrote::Refused(Refusal::of_call(21));
     }
-    put_sheet(out, n as u8, list, masks, values, stamped);
+    put_sheet(out, terms, list, masks, values, stamped);
     Wrote::Done(list.len() / 8, size)
 }

@@ -8,7 +8,7 @@ use Rattle.writer.proofs.store.put_sheet.Tie as tie
 returns : tie.Need-returns
 returns c =
     let s = c .before .before .before .before .before .before .before .before .before .before .before .before .before .before .before .before in
-    let e = s .pre .2 ∙ sym (size-is _ _ _ (s .pre .0)) in
+    let e = s .pre .3 ∙ sym (size-is _ _ _ (s .pre .1)) in
     join (rw e at (c .before .before .before .before .before .before .before .before .before .before .put-header .ensures)) (join (c .before .before .before .before .before .before .put-all .ensures) (c .before .before .put-pieces .ensures))
 
 pub put-sheet-spec : {M : Type 1} → statement M

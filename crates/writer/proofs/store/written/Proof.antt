@@ -1,5 +1,7 @@
+-- 21 where the output is too short, and otherwise the whole sheet is put.
 use native.Mathlib.Omega.{arith}
 use denote.Ref.{now}
+use Rattle.clock.specs.Said.{stated}
 use Rattle.course.specs.Said.{work}
 use Rattle.writer.proofs.InOrder.{short-out, whole-out}
 use borrow.Author.Needs.{needs}
@@ -18,17 +20,14 @@ add-size-2 c = omega (arith, c .before .before .before .before .before .before .
 returns : tie.Need-returns
 returns c =
     let a = c .before .before .before .before .before .before .before .before .before .before .before .before .before .before .before .before .before .before .before .args in
-    short-out (a .n) (now (a .list)) (work (now (a .clocks)) (now (a .masks)) (now (a .values))) (now (a .out)) _ (c .before .before .before .before .before .before .before .before .before .before .before .before .stamps-size .ensures .0) _ _ (c .of-call .ensures)
+    short-out (stated (a .terms)) (now (a .list)) (work (now (a .clocks)) (now (a .masks)) (now (a .values))) (now (a .out)) (c .before .before .before .before .before .before .before .before .before .before .before .before .stamps-size .ensures .0) (c .of-call .ensures)
     (c .before .before .before .before .before .before .before .before .before .before .before .if1 .taken) (c .before .before .before .before .before .before .before .clear .ensures)
 
-cast-put-sheet : tie.Need-cast-put-sheet
-cast-put-sheet c = omega (arith, c .before .before .before .before .before .before .before .before .before .pre .0)
-
 put-sheet-requires : tie.Need-put-sheet-requires
-put-sheet-requires c κs = let h = c .before .before .before .before .before .before .before .before .before .before .before .pre in (h .1, h .2, c .before .before .before .before .stamps-size .ensures .0)
+put-sheet-requires c κs = let h = c .before .before .before .before .before .before .before .before .before .before .before .pre in (h .0, h .1, h .2, c .before .before .before .before .stamps-size .ensures .0)
 
 returns-2 : tie.Need-returns-2
-returns-2 c = let a = c .before .before .before .before .before .before .before .before .before .before .before .before .before .before .args in whole-out (a .n) (now (a .list)) (work (now (a .clocks)) (now (a .masks)) (now (a .values))) (now (a .out)) _ (c .before .before .before .before .before .before .before .stamps-size .ensures .0) _ (c .before .before .before .before .before .before .if1 .left) (c .before .before .put-sheet .ensures .bytes)
+returns-2 c = let a = c .before .before .before .before .before .before .before .before .before .before .before .before .before .before .args in whole-out (stated (a .terms)) (now (a .list)) (work (now (a .clocks)) (now (a .masks)) (now (a .values))) (now (a .out)) (c .before .before .before .before .before .before .before .stamps-size .ensures .0) (c .before .before .before .before .before .before .if1 .left) (c .before .before .put-sheet .ensures .bytes)
 
 pub written-spec : {M : Type 1} → statement M
 written-spec =
@@ -43,7 +42,6 @@ written-spec =
     (λ c. search needs)
     (λ c. search needs)
     returns
-    cast-put-sheet
     put-sheet-requires
     (λ c. search needs)
     (λ c. search needs)
