@@ -32,7 +32,7 @@ fn chain_said(
     );
     match c {
         Chained::Refused(r) => lines::refusal_text(r, out),
-        Chained::Length(k) => lines::chain_text(&chain, k, out),
+        Chained::Done(k) => lines::chain_text(&chain, k, out),
     }
 }
 
@@ -46,7 +46,7 @@ pub fn chain_answer(sheet: &[u8], first: Position, second: Position, out: &mut [
     let r = sheet::read(sheet, &mut clocks, &mut masks, &mut values);
     match r {
         Reading::Refused(r) => lines::refusal_text(r, out),
-        Reading::Accepted(c) => {
+        Reading::Done(c) => {
             let from = c.offset;
             chain_said(c.processes, &sheet[from..from + c.size], first, second, out)
         }

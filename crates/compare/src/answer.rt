@@ -22,7 +22,7 @@ fn verdict_said(
     let c = order::compare(n, list, &mut clocks, &mut masks, &mut values, first, second);
     match c {
         Compared::Refused(r) => lines::refusal_text(r, out),
-        Compared::Judged(v) => lines::verdict_text(v, out),
+        Compared::Done(v) => lines::verdict_text(v, out),
     }
 }
 
@@ -41,7 +41,7 @@ pub fn compare_answer(
     let r = sheet::read(sheet, &mut clocks, &mut masks, &mut values);
     match r {
         Reading::Refused(r) => lines::refusal_text(r, out),
-        Reading::Accepted(c) => {
+        Reading::Done(c) => {
             let from = c.offset;
             verdict_said(c.processes, &sheet[from..from + c.size], first, second, out)
         }

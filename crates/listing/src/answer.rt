@@ -14,7 +14,7 @@ pub fn listing_answer(sheet: &[u8], out: &mut [u8; PAGE]) -> usize
     let r = sheet::read(sheet, &mut clocks, &mut masks, &mut values);
     match r {
         Reading::Refused(r) => lines::refusal_text(r, out),
-        Reading::Accepted(c) => {
+        Reading::Done(c) => {
             let from = c.offset;
             let list = &sheet[from..from + c.size];
             lines::listing_text(c.processes, list, &clocks, &masks, c.carried, out)
@@ -33,7 +33,7 @@ pub fn listing_lamport_answer(sheet: &[u8], out: &mut [u8; PAGE]) -> usize
     let r = sheet::read_lamport(sheet, &mut clocks, &mut masks, &mut values, &mut numbers);
     match r {
         Reading::Refused(r) => lines::refusal_text(r, out),
-        Reading::Accepted(c) => {
+        Reading::Done(c) => {
             let from = c.offset;
             let list = &sheet[from..from + c.size];
             lines::listing_lamport_text(

@@ -7,8 +7,6 @@ ghost use lib.Seq.{sets};
 ghost use Rattle.paper.specs.Bytes as bytes;
 ghost use Rattle.paper.specs.Marking.{line-count, marking};
 ghost use Rattle.paper.specs.Order.{verdict};
-ghost use Rattle.paper.specs.Refusals as paper;
-ghost use Rattle.clock.specs.Said as said;
 ghost use Rattle.course.specs.Said.{work};
 ghost use Rattle.order.specs.Stands.{row};
 ghost use Rattle.marks.specs.Rows.{Slots, row-mark, row-marks, row-total, judging};
@@ -16,6 +14,9 @@ ghost use Rattle.marks.specs.Said.{marked};
 use clock::Ordered;
 use clock::Position;
 use clock::Refusal;
+use octets::read::two_at;
+use octets::width::wide;
+use octets::width::wide16;
 use sheet::Reading;
 
 // What marking answers: the total, and of how many lines.
@@ -24,28 +25,21 @@ pub enum Marked {
     Done(usize, usize),
 }
 
-fn wide(x: u8) -> usize
-    ensures { λ r. ⌜ (r ≡ x) × (r < 256) ⌝ }
-{
-    x as usize
-}
-
 // The number in the two bytes from k on.
-fn two(lines: &[u8], k: usize) -> usize
-    requires { ⌜ (k + 2 ≤ length (now lines)) × (k ≤ 1200) ⌝ }
+fn number_at(lines: &[u8], k: usize) -> usize
     ensures { λ r. ⌜ r ≡ bytes.two (now (lines .entry)) k ⌝ }
 {
-    wide(lines[k]) + 256 * wide(lines[k + 1])
+    wide16(two_at(lines, k))
 }
 
 // Whether a verdict is the one on the clocks of two events, whose n slots each begin at n times the position.
-fn is_verdict(n: usize, clocks: &[u16], first: usize, second: usize, given: usize) -> bool
-    requires { ⌜ (1 ≤ n) × (n ≤ 32) × (first < 512) × (second < 512)
-        × (n * first + n ≤ length (now clocks)) × (n * second + n ≤ length (now clocks)) ⌝ }
-    ensures { λ r. ⌜ r ≡ eqb given (verdict n (row n (now (clocks .entry)) first) (row n (now (clocks .entry)) second)) ⌝ }
+fn is_verdict(n: usize, clocks: &[u16], first: Position, second: Position, given: usize) -> bool
+    requires { ⌜ (1 ≤ n) × (n ≤ 32) × (first .0 < 512) × (second .0 < 512)
+        × (n * first .0 + n ≤ length (now clocks)) × (n * second .0 + n ≤ length (now clocks)) ⌝ }
+    ensures { λ r. ⌜ r ≡ eqb given (verdict n (row n (now (clocks .entry)) (first .0)) (row n (now (clocks .entry)) (second .0))) ⌝ }
 {
-    let a = n * first;
-    let b = n * second;
+    let a = n * first.0;
+    let b = n * second.0;
     match clock::order(&clocks[a..a + n], &clocks[b..b + n]) {
         Ordered::Refused(_) => false,
         Ordered::Done(v) => given == v.number(),
@@ -54,13 +48,13 @@ fn is_verdict(n: usize, clocks: &[u16], first: usize, second: usize, given: usiz
 
 // The mark of the line at j.
 fn mark_at(n: usize, m: usize, clocks: &[u16], lines: &[u8], j: usize) -> u8
-    requires { ⌜ Slots n m (now clocks) × (6 * j + 6 ≤ length (now lines)) × (j < 200) ⌝ }
+    requires { ⌜ Slots n m (now clocks) × (j < 200) ⌝ }
     ensures { λ r. ⌜ r ≡ row-mark n m (now (clocks .entry)) (now (lines .entry)) j ⌝ }
 {
-    let first = two(lines, 6 * j);
-    let second = two(lines, 6 * j + 2);
-    let given = two(lines, 6 * j + 4);
-    if !(first < m) | !(second < m) {
+    let first = Position(number_at(lines, 6 * j));
+    let second = Position(number_at(lines, 6 * j + 2));
+    let given = number_at(lines, 6 * j + 4);
+    if !(first.0 < m) | !(second.0 < m) {
         return 0;
     }
     if is_verdict(n, clocks, first, second, given) {
@@ -87,16 +81,6 @@ fn mark_all(n: usize, m: usize, clocks: &[u16], lines: &[u8], marks: &mut [u8]) 
     total
 }
 
-// A refusal that concerns no event.
-fn of_call(number: u8) -> Refusal
-    ensures { λ r. ⌜ said.refusal r ≡ paper.of-call number ⌝ }
-{
-    Refusal {
-        number: number,
-        position: Position(0),
-    }
-}
-
 // The lines on m events of n processes, whose clocks stand in the slots: 21 where there are fewer mark slots than lines.
 fn judge(
     n: usize,
@@ -114,7 +98,7 @@ fn judge(
     let k = lines.len() / 6;
     if marks.len() < k {
         course::clear(n, m, clocks, masks, values);
-        return Marked::Refused(of_call(21));
+        return Marked::Refused(Refusal::of_call(21));
     }
     let total = mark_all(n, m, clocks, lines, marks);
     Marked::Done(total, k)
@@ -133,10 +117,10 @@ pub fn mark(
         ≡ marking (now (sheet .entry)) (now (lines .entry)) (work (now (clocks .entry)) (now (masks .entry)) (now (values .entry))) (now (marks .entry)) ⌝ }
 {
     if (lines.len() % 6 != 0) | (1200 < lines.len()) {
-        return Marked::Refused(of_call(30));
+        return Marked::Refused(Refusal::of_call(30));
     }
     match sheet::read(sheet, clocks, masks, values) {
         Reading::Refused(r) => Marked::Refused(r),
-        Reading::Accepted(c) => judge(c.processes, c.size / 8, lines, clocks, masks, values, marks),
+        Reading::Done(c) => judge(c.processes, c.size / 8, lines, clocks, masks, values, marks),
     }
 }

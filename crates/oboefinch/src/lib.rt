@@ -34,7 +34,7 @@ pub extern "C" fn oboefinch_read(
 {
     match sheet::read(sheet, clocks, masks, values) {
         Reading::Refused(r) => pack::refusal(r),
-        Reading::Accepted(c) => pack::fields(0, c.processes, c.size / 8, c.carried),
+        Reading::Done(c) => pack::fields(0, c.processes, c.size / 8, c.carried),
     }
 }
 
@@ -53,7 +53,7 @@ pub extern "C" fn oboefinch_read_lamport(
 {
     match sheet::read_lamport(sheet, clocks, masks, values, lamports) {
         Reading::Refused(r) => pack::refusal(r),
-        Reading::Accepted(a) => pack::fields(0, a.processes, a.size / 8, a.carried),
+        Reading::Done(a) => pack::fields(0, a.processes, a.size / 8, a.carried),
     }
 }
 
@@ -137,7 +137,7 @@ pub extern "C" fn oboefinch_compare(
     let b = Position(second);
     match order::compare(n, list, clocks, masks, values, a, b) {
         Compared::Refused(r) => pack::refusal(r),
-        Compared::Judged(v) => pack::verdict(v),
+        Compared::Done(v) => pack::verdict(v),
     }
 }
 
@@ -161,7 +161,7 @@ pub extern "C" fn oboefinch_chain(
     let b = Position(second);
     match order::chain(n, list, clocks, masks, values, a, b, chain) {
         Chained::Refused(r) => pack::refusal(r),
-        Chained::Length(length) => pack::fields(0, 0, 0, length),
+        Chained::Done(length) => pack::fields(0, 0, 0, length),
     }
 }
 
@@ -200,7 +200,7 @@ pub extern "C" fn oboefinch_savings(
 {
     match saving::store(sheet, clocks, masks, values, percent) {
         Saved::Refused(r) => pack::refusal(r),
-        Saved::Told(s) => pack::saving(s),
+        Saved::Done(s) => pack::saving(s),
     }
 }
 

@@ -12,6 +12,8 @@ ghost use Rattle.saving.specs.Said.{counts, counted, saving, saved};
 ghost use Rattle.saving.specs.Slots.{slot-sends, placing};
 use clock::Position;
 use clock::Refusal;
+use clock::event::SEND;
+use clock::event::kind_at;
 use sheet::Reading;
 
 // What is counted of a sheet: processes, events, sends, and the values that the stamps carry.
@@ -25,7 +27,7 @@ pub struct Counts {
 // What counting answers.
 pub enum Counted {
     Refused(Refusal),
-    Of(Counts),
+    Done(Counts),
 }
 
 // No messages at all, or a percentage.
@@ -37,14 +39,14 @@ pub enum Saving {
 // What is told of a sheet: a refused one has its own answer.
 pub enum Saved {
     Refused(Refusal),
-    Told(Saving),
+    Done(Saving),
 }
 
 // 1 for a send, 0 for another event.
 fn one_send(kind: u8) -> usize
     ensures { λ r. ⌜ (r ≡ cond (eqb kind send) 1 0) × (r ≤ 1) ⌝ }
 {
-    if kind == 1 {
+    if kind == SEND {
         return 1;
     }
     0
@@ -59,7 +61,7 @@ fn sends_in(list: &[u8]) -> usize
     let mut sends: usize = 0;
     let mut i: usize = 0;
     while i < m {
-        sends += one_send(list[8 * i]);
+        sends += one_send(kind_at(list, Position(i)));
         i += 1;
     }
     sends
@@ -72,10 +74,10 @@ pub fn count(sheet: &[u8], clocks: &mut [u16], masks: &mut [u32], values: &mut [
 {
     match sheet::read(sheet, clocks, masks, values) {
         Reading::Refused(r) => Counted::Refused(r),
-        Reading::Accepted(c) => {
+        Reading::Done(c) => {
             let from = c.offset;
             let sends = sends_in(&sheet[from..from + c.size]);
-            Counted::Of(Counts {
+            Counted::Done(Counts {
                 processes: c.processes,
                 events: c.size / 8,
                 sends: sends,
@@ -105,7 +107,7 @@ pub fn savings(sheet: &[u8], clocks: &mut [u16], masks: &mut [u32], values: &mut
 {
     match count(sheet, clocks, masks, values) {
         Counted::Refused(r) => Saved::Refused(r),
-        Counted::Of(c) => Saved::Told(figure(c)),
+        Counted::Done(c) => Saved::Done(figure(c)),
     }
 }
 
@@ -137,14 +139,11 @@ fn place(
 {
     if percent.len() < 1 {
         course::clear(c.processes, c.events, clocks, masks, values);
-        return Saved::Refused(Refusal {
-            number: 21,
-            position: Position(0),
-        });
+        return Saved::Refused(Refusal::of_call(21));
     }
     let s = figure(c);
     put(s, percent);
-    Saved::Told(s)
+    Saved::Done(s)
 }
 
 // The same with the percentage in the first slot lent for it.
@@ -160,6 +159,6 @@ pub fn store(
 {
     match count(sheet, clocks, masks, values) {
         Counted::Refused(r) => Saved::Refused(r),
-        Counted::Of(c) => place(c, clocks, masks, values, percent),
+        Counted::Done(c) => place(c, clocks, masks, values, percent),
     }
 }

@@ -30,6 +30,6 @@ pub fn savings_answer(sheet: &[u8], out: &mut [u8; PAGE]) -> usize
     let c = saving::count(sheet, &mut clocks, &mut masks, &mut values);
     match c {
         Counted::Refused(r) => lines::refusal_text(r, out),
-        Counted::Of(k) => counts_text(k, out),
+        Counted::Done(k) => counts_text(k, out),
     }
 }

@@ -18,7 +18,8 @@ use Rattle.paper.specs.Refusals.{Refusal, first, of-call}
 use Rattle.paper.specs.Sheet.{stamp-bytes}
 use Rattle.paper.proofs.Sheets.Parts.{begins-says}
 use Rattle.paper.proofs.StampSays.{begins-append}
-use Rattle.sheet.specs.Slots.{value-bytes, slot-stamp, kind-piece, kind-size, kind-at, pieces-from, slot-pieces, Slots}
+use Rattle.clock.specs.Event.{kind-at}
+use Rattle.sheet.specs.Slots.{value-bytes, slot-stamp, kind-piece, kind-size, pieces-from, slot-pieces, Slots}
 use Rattle.sheet.proofs.Slots.{one-more, length-value-bytes, length-slot-stamp, length-kind-piece, begin-more, values-there}
 
 two-tests : (a b : Bool) → (a && (b && true)) ≡ (a && b)

@@ -18,7 +18,8 @@ use Rattle.paper.specs.Sheet.{piece, pieces}
 use Rattle.paper.specs.Stamp.{Stamp, no-stamp, never-sent, previous, stamps, stamps-after}
 use Rattle.paper.proofs.Laws.Runs.{length-events}
 use Rattle.paper.proofs.Ones.{each-stamp, values-stand}
-use Rattle.sheet.specs.Slots.{slot-stamp, kind-piece, kind-at, pieces-from, slot-pieces, Slots}
+use Rattle.clock.specs.Event.{kind-at}
+use Rattle.sheet.specs.Slots.{slot-stamp, kind-piece, pieces-from, slot-pieces, Slots}
 
 -- The event at i of a list is the one whose record begins at byte 8 * i.
 event-there : (list : List ℕ) (k i : ℕ) → i < k → getD (first-events k list) i (nothing .event) ≡ event-at list (8 * i)

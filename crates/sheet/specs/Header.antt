@@ -49,7 +49,7 @@ parts-in b =
 -- A refusal number, or the parts.
 abbrev pub headed : Heading → Outcome Parts
 headed (code.Refused r) = refused (of-call r)
-headed (code.Found p) = done p
+headed (code.Done p) = done p
 
 -- The offset and the size that stand at k, each of four bytes.
 pub record Placed (b : List ℕ) (k : ℕ) (p : Part) : Type 0 where

@@ -15,12 +15,12 @@ use Rattle.sheet.specs.declared.Reading.the-variants as reading
 -- What is read of the sheet b; the list is told by where it lies in b.
 abbrev pub told : List ℕ → declared-read.Reading → Outcome Read
 told b (reading.Refused r) = refused (refusal r)
-told b (reading.Accepted c) = done (record { processes = c .processes; list = take (c .size) (drop (c .offset) b); carried = c .carried })
+told b (reading.Done c) = done (record { processes = c .processes; list = take (c .size) (drop (c .offset) b); carried = c .carried })
 
 -- The list of an accepted sheet lies where its header says.
 abbrev pub Where : List ℕ → declared-read.Reading → Type 0
 Where b (reading.Refused r) = Unit
-Where b (reading.Accepted c) = (c .offset ≡ list-offset b) × (c .size ≡ list-size b)
+Where b (reading.Done c) = (c .offset ≡ list-offset b) × (c .size ≡ list-size b)
 
 -- What the reader promises: from the sheet b and the work buffers w it gives r and leaves w′.
 abbrev pub Reads : List ℕ → Work → declared-read.Reading → Work → Type 0

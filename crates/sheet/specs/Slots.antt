@@ -5,8 +5,9 @@ use mathlib.Core.List.{List, [], _∷_, flatMap}
 use lib.Count.{ones}
 use lib.Dec.{eqb}
 use lib.ListN.{length, getD, take, drop}
+use Rattle.clock.specs.Event.{kind-at}
 use Rattle.paper.specs.Buffers.{values-begin}
-use Rattle.paper.specs.Bytes.{byte, two-bytes}
+use Rattle.paper.specs.Bytes.{two-bytes}
 use Rattle.paper.specs.Event.{send, how-many}
 use Rattle.paper.specs.Sheet.{stamp-bytes}
 
@@ -24,10 +25,6 @@ kind-piece kind m vs p = cond (eqb kind send) (slot-stamp m vs p) []
 
 abbrev pub kind-size : ℕ → ℕ → ℕ
 kind-size kind m = cond (eqb kind send) (4 + 2 * ones m) 0
-
--- The kind of the event at i.
-abbrev pub kind-at : List ℕ → ℕ → ℕ
-kind-at list i = byte list (8 * i)
 
 module _ (list masks : List ℕ) where
   -- The pieces of k events from the one at i on; those of all events of the list.

@@ -3,13 +3,16 @@ ghost use mathlib.Core.Path.{_≡_};
 ghost use mathlib.Core.Bool.{_||_};
 ghost use Prim.Native.Nat.{_-_, _≤_, _<_, _^_};
 ghost use lib.Dec.{ltb};
-ghost use Rattle.paper.specs.Bytes.{byte, two, four};
 ghost use Rattle.paper.specs.Reading.{wrong-count, shared, header-checks};
 ghost use Rattle.paper.specs.Refusals.{of-call, outcome};
 ghost use Rattle.sheet.specs.Header.{headed, in-turn, parts-in, Placed, Lies};
 ghost use Rattle.sheet.specs.Header.{wrong-length, wrong-letters, wrong-version, wrong-zeros, wrong-list, wrong-stamps};
-use super::bytes::wide;
 use clock::Clock;
+use octets::read::byte_at;
+use octets::read::four_at;
+use octets::read::two_at;
+use octets::width::wide;
+use octets::width::wide32;
 
 // A part of a sheet: it begins at `offset` and has `size` bytes.
 pub(crate) struct Part {
@@ -26,28 +29,7 @@ pub(crate) struct Parts {
 
 pub(crate) enum Heading {
     Refused(u8),
-    Found(Parts),
-}
-
-// Byte k; behind the end 0.
-fn byte_at(s: &[u8], k: usize) -> u8
-    ensures { λ r. ⌜ r ≡ byte (now (s .entry)) k ⌝ }
-{
-    if k < s.len() { s[k] } else { 0 }
-}
-
-fn two_at(s: &[u8], k: usize) -> usize
-    requires { ⌜ k ≤ 22 ⌝ }
-    ensures { λ r. ⌜ (r ≡ two (now (s .entry)) k) × (r < 65536) ⌝ }
-{
-    wide(byte_at(s, k)) + 256 * wide(byte_at(s, k + 1))
-}
-
-fn four_at(s: &[u8], k: usize) -> usize
-    requires { ⌜ k ≤ 20 ⌝ }
-    ensures { λ r. ⌜ (r ≡ four (now (s .entry)) k) × (r < 2 ^ 32) ⌝ }
-{
-    two_at(s, k) + 65536 * two_at(s, k + 2)
+    Done(Parts),
 }
 
 // The part whose offset and size stand at k.
@@ -56,8 +38,8 @@ fn part_at(s: &[u8], k: usize) -> Part
     ensures { λ r. ⌜ Placed (now (s .entry)) k r ⌝ }
 {
     Part {
-        offset: four_at(s, k),
-        size: four_at(s, k + 4),
+        offset: wide32(four_at(s, k)),
+        size: wide32(four_at(s, k + 4)),
     }
 }
 
@@ -196,5 +178,5 @@ pub(crate) fn head(sheet: &[u8]) -> Heading
     if number != 0 {
         return Heading::Refused(number);
     }
-    Heading::Found(p)
+    Heading::Done(p)
 }

@@ -1,15 +1,10 @@
 // Sheets: read, with every check in its order.
-mod bytes;
 mod header;
 mod reader;
 pub mod stamps;
 
-ghost use mathlib.Core.Path.{_≡_};
 ghost use Rattle.course.specs.Said.{work};
-ghost use Rattle.paper.specs.Refusals.{of-call};
-ghost use Rattle.clock.specs.Said.{refusal};
 ghost use Rattle.sheet.specs.Said.{Reads, Numbers, Where};
-use clock::Position;
 use clock::Refusal;
 use header::Heading;
 
@@ -24,17 +19,7 @@ pub struct Contents {
 // What reading a sheet answers.
 pub enum Reading {
     Refused(Refusal),
-    Accepted(Contents),
-}
-
-// A refusal that concerns no event.
-fn of_call(number: u8) -> Refusal
-    ensures { λ r. ⌜ refusal r ≡ of-call number ⌝ }
-{
-    Refusal {
-        number: number,
-        position: Position(0),
-    }
+    Done(Contents),
 }
 
 // Reading: 1 to 7, 9, events in order, then stamps; with the Lamport numbers of an accepted sheet's events.
@@ -50,10 +35,10 @@ pub fn read_lamport(
     ensures { λ r. ⌜ Where (now (sheet .entry)) r ⌝ }
 {
     match header::head(sheet) {
-        Heading::Refused(number) => Reading::Refused(of_call(number)),
-        Heading::Found(p) => {
+        Heading::Refused(number) => Reading::Refused(Refusal::of_call(number)),
+        Heading::Done(p) => {
             if lamports.len() < p.list.size / 8 {
-                return Reading::Refused(of_call(9));
+                return Reading::Refused(Refusal::of_call(9));
             }
             reader::judged(sheet, p, clocks, masks, values, lamports)
         }

@@ -69,7 +69,7 @@ pub(crate) fn judged(
             if r.number != 0 {
                 return Reading::Refused(r);
             }
-            Reading::Accepted(Contents {
+            Reading::Done(Contents {
                 processes: n,
                 offset: offset,
                 size: size,

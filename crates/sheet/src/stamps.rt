@@ -9,11 +9,13 @@ ghost use Rattle.paper.specs.Bytes.{two-bytes, four-bytes};
 ghost use Rattle.paper.specs.Reading.{begins, stamps-refused};
 ghost use Rattle.paper.specs.Refusals.{first, of-call};
 ghost use Rattle.sheet.specs.Slots.{value-bytes, slot-stamp, kind-piece, kind-size, slot-pieces, Slots};
-use super::bytes::wide;
-use super::bytes::wide16;
-use super::bytes::wide32;
 use clock::Position;
 use clock::Refusal;
+use clock::event::SEND;
+use clock::event::kind_at;
+use octets::width::wide;
+use octets::width::wide16;
+use octets::width::wide32;
 
 // How many values a mask carries.
 pub fn ones_in(mask: u32) -> usize
@@ -70,7 +72,7 @@ fn same_piece(s: &[u8], at: usize, kind: u8, mask: u32, values: &[u16], place: u
     requires { ⌜ (at ≤ length (now s)) × (place + ones mask ≤ length (now values)) ⌝ }
     ensures { λ r. ⌜ r ≡ begins (kind-piece kind mask (now (values .entry)) place) (drop at (now (s .entry))) ⌝ }
 {
-    if kind != 1 {
+    if kind != SEND {
         return true;
     }
     same_stamp(s, at, mask, values, place)
@@ -80,7 +82,7 @@ fn same_piece(s: &[u8], at: usize, kind: u8, mask: u32, values: &[u16], place: u
 pub fn piece_size(kind: u8, mask: u32) -> usize
     ensures { λ r. ⌜ (r ≡ kind-size kind mask) × (r ≤ 68) ⌝ }
 {
-    if kind != 1 {
+    if kind != SEND {
         return 0;
     }
     4 + 2 * ones_in(mask)
@@ -91,15 +93,9 @@ fn left_over(len: usize, at: usize) -> Refusal
     ensures { λ r. ⌜ said r ≡ of-call (first (ltb at len) 19 0) ⌝ }
 {
     if at < len {
-        return Refusal {
-            number: 19,
-            position: Position(0),
-        };
+        return Refusal::of_call(19);
     }
-    Refusal {
-        number: 0,
-        position: Position(0),
-    }
+    Refusal::of_call(0)
 }
 
 // 18 at the first send whose recorded stamp ends early or differs, then 19.
@@ -112,13 +108,10 @@ pub(crate) fn compare(list: &[u8], masks: &[u32], values: &[u16], stamps: &[u8])
     let mut place: usize = 0;
     let mut i: usize = 0;
     while i < m {
-        let kind = list[8 * i];
+        let kind = kind_at(list, Position(i));
         let mask = masks[i];
         if !same_piece(stamps, at, kind, mask, values, place) {
-            return Refusal {
-                number: 18,
-                position: Position(i),
-            };
+            return Refusal::of_event(18, Position(i));
         }
         at += piece_size(kind, mask);
         place += ones_in(mask);
