@@ -5,7 +5,7 @@ use mathlib.Core.List.{List}
 use mathlib.Core.Logic.{_≢_}
 use mathlib.Core.Path.{_≡_, refl, sym, ap, _∙_, subst}
 use lib.ListN.{length}
-use lib.Seq.{sets, length-sets}
+use lib.Seq.{sets}
 use borrow.Author.Tests.{ne-eqb}
 use Rattle.paper.specs.Buffers.{Work, short, laid, written-to}
 use Rattle.paper.specs.Event.{how-many}
@@ -17,7 +17,7 @@ use Rattle.paper.proofs.RoundTrip.{list-accepted, writing-number}
 use Rattle.paper.proofs.Sheets.Checks.{is-done}
 use Rattle.paper.proofs.Sheets.Layout.{written-good}
 use Rattle.course.proofs.Passed.{is-refused}
-use Rattle.writer.proofs.Stored.{laid-there}
+use Rattle.paper.proofs.Laws.Stores.{laid-front}
 use Rattle.lines.specs.Text.{Printed}
 use Rattle.desk.specs.Answers.{ample, write-refusal, write-answer}
 use Rattle.desk.proofs.Roomy.{same-refusal}
@@ -62,8 +62,7 @@ module _ (n : ℕ) (list : List ℕ) where
           (record { events = m; bytes = k }) .0 (sym (ap (λ (x : Outcome Written × Work × List ℕ). x .0) e)) in
           let (accepted, inside) = writing-number n list ample old .0 z in
           let none = list-accepted n list ample .1 accepted in
-          let there : sets old 0 xs ≡ laid (length xs) xs old =
-          laid-there {l = old} {m = sets old 0 xs} {t = xs} {r = 0 + length xs} (record { behind = refl; long = length-sets old 0 xs; bytes = refl }) inside in
+          let there : sets old 0 xs ≡ laid (length xs) xs old = laid-front xs old inside in
           let size : k ≡ length xs = ap (λ (x : Written). x .bytes) (sym same) in
           let answer : done xs ≡ write-answer n list =
           sym (is-done (write-refusal n list) xs xs .1 (subst (λ (x : Refusal). x .number ≡ 0) (same-refusal n list) none, refl)) in

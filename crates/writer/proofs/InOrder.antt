@@ -6,7 +6,7 @@ use mathlib.Core.Bool.{Bool, true, false, cond}
 use mathlib.Core.List.{List}
 use lib.Dec.{eqb, ltb}
 use lib.ListN.{length}
-use lib.Seq.{sets, length-sets}
+use lib.Seq.{sets}
 use borrow.Author.Tests.{ne-eqb, le-ltb, lt-ltb, ltb-false}
 use Rattle.paper.specs.Buffers.{Work, entries, filled, after-call, written-to, laid}
 use Rattle.paper.specs.Event.{how-many}
@@ -14,13 +14,12 @@ use Rattle.paper.specs.Questions.{list-refusal, strict, Written, writing-refusa
 use Rattle.paper.specs.Refusals.{first, Refusal, of-call, Outcome, refused, done, outcome}
 use Rattle.paper.specs.Sheet.{written}
 use Rattle.paper.proofs.Laws.Refused.{after-done}
+use Rattle.paper.proofs.Laws.Stores.{laid-front}
 use Rattle.course.specs.Said.{late, of-list}
 use Rattle.course.proofs.Passed.{is-refused, Passed, late-cleared}
-use Rattle.writer.specs.Appended.{Appended}
 use Rattle.writer.specs.Said.{laying}
 use Rattle.writer.specs.Sizes.{slot-size, slot-written}
 use Rattle.writer.proofs.Sizes.{written-there, size-there}
-use Rattle.writer.proofs.Stored.{laid-there}
 
 -- What is laid: nothing where the output is too short, and otherwise the whole sheet.
 module _ (n : ℕ) (list : List ℕ) (w : Work) (out : List ℕ) (stamped : ℕ) (is : stamped ≡ slot-size list (w .masks)) where
@@ -74,6 +73,5 @@ module _ (n : ℕ) (list : List ℕ) (w : Work) (out : List ℕ) where
       go true e = let c = late-cleared n list w w′ p 21 (omega arith) in λ i. (refused (of-call 21), c i, out)
       go false e =
           let s = p .is ∙ sym (after-done 0 n m (of-list n list) w refl) in
-          let a : Appended out 0 xs (0 + length xs) (sets out 0 xs) = record { behind = refl; long = rw length-sets; bytes = refl } in
-          let l = laid-there a (ltb-false (length out) (length xs) e) in
+          let l = laid-front xs out (ltb-false (length out) (length xs) e) in
           λ i. (done answer, s i, l i)

@@ -24,12 +24,12 @@ use Rattle.writer.specs.declared.Wrote.the-variants as writer
 -- The answer r accepts the sheet b, and says n processes and this list.
 abbrev pub Accepts : ℕ → List ℕ → List ℕ → declared-read.Reading → Type 0
 Accepts n list b (reader.Refused r) = ⊥
-Accepts n list b (reader.Accepted c) = (c .processes ≡ n) × (take (c .size) (drop (c .offset) b) ≡ list)
+Accepts n list b (reader.Done c) = (c .processes ≡ n) × (take (c .size) (drop (c .offset) b) ≡ list)
 
 accepts : (n : ℕ) (list b : List ℕ) (r : declared-read.Reading) → told b r ≡ done (read-of n list) → Accepts n list b r
 unfolding read-of
 accepts n list b (reader.Refused r) e = let z : _≡_ {A = ℕ} 0 1 = cc in omega arith
-accepts n list b (reader.Accepted c) e =
+accepts n list b (reader.Done c) e =
     let same : _≡_ {A = Read} (record { processes = c .processes; list = take (c .size) (drop (c .offset) b); carried = c .carried }) (read-of n list) = cc in
     (ap (λ (x : Read). x .processes) same, ap (λ (x : Read). x .list) same)
 

@@ -6,12 +6,13 @@ use native.Mathlib.Numerals.{add-one}
 use native.Mathlib.Omega.{arith}
 use lib.ListN.{length, getD, replicate, length-append}
 use Rattle.course.specs.Said.{of-list}
+use Rattle.clock.specs.Event.{kind-at}
 use Rattle.paper.specs.Buffers.{Work, values-begin, filled}
 use Rattle.paper.specs.Bytes.{two-bytes, four-bytes, text}
 use Rattle.paper.specs.Event.{how-many, events-of}
 use Rattle.paper.specs.Machine.{start, answers}
 use Rattle.paper.specs.Sheet.{pieces, stamps-part, header, written}
-use Rattle.sheet.specs.Slots.{kind-piece, kind-size, kind-at, pieces-from, Slots}
+use Rattle.sheet.specs.Slots.{kind-piece, kind-size, pieces-from, Slots}
 use Rattle.sheet.proofs.Filled.{slots-there, pieces-there}
 use Rattle.sheet.proofs.Slots.{length-kind-piece, values-there}
 use Rattle.writer.specs.Sizes.{size-from, slot-size, slot-stamps, slot-written}

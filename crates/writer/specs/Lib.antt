@@ -1,3 +1,2 @@
-pub mod Appended
 pub mod Sizes
 pub mod Said

@@ -2,9 +2,10 @@
 use Prim.Native.Nat.{ℕ, zero, suc, _+_}
 use mathlib.Core.List.{List, _++_, flatten}
 use lib.ListN.{length, getD}
+use Rattle.clock.specs.Event.{kind-at}
 use Rattle.paper.specs.Event.{how-many}
 use Rattle.paper.specs.Sheet.{header}
-use Rattle.sheet.specs.Slots.{kind-size, kind-at, slot-pieces}
+use Rattle.sheet.specs.Slots.{kind-size, slot-pieces}
 
 module _ (list masks : List ℕ) where
   -- How many bytes k events from the one at i on have among the stamps: 4 for each send, and 2 for each value.

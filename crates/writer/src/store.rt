@@ -7,86 +7,53 @@ ghost use lib.ListN.{length};
 ghost use Rattle.paper.specs.Bytes.{two-bytes, four-bytes, text};
 ghost use Rattle.paper.specs.Event.{how-many};
 ghost use Rattle.paper.specs.Sheet.{header};
-ghost use Rattle.writer.specs.Appended.{Appended};
-ghost use Rattle.sheet.specs.Slots.{value-bytes, slot-stamp, kind-piece, kind-size, Slots};
+ghost use Rattle.octets.specs.Appended.{Appended};
+ghost use Rattle.sheet.specs.Slots.{value-bytes, slot-stamp, kind-piece, Slots};
 ghost use Rattle.writer.specs.Sizes.{slot-size, slot-stamps, slot-written};
 ghost use Rattle.course.specs.Said.{work};
 ghost use Rattle.writer.specs.Said.{wrote, laying};
 use super::Wrote;
 use clock::Position;
 use clock::Refusal;
+use clock::event::SEND;
+use clock::event::kind_at;
+use octets::store::put;
+use octets::store::put_all;
+use octets::store::put_four;
+use octets::store::put_two;
+use octets::width::wide16;
+use octets::width::wide32;
 use sheet::stamps::ones_in;
 use sheet::stamps::piece_size;
 
-fn put(out: &mut [u8], at: usize, b: u8) -> usize
-    requires { ⌜ at < length (now out) ⌝ }
-    ensures { λ r. ⌜ Appended (now (out .entry)) at (b ∷ []) r (now (out .exit)) ⌝ }
-{
-    out[at] = b;
-    at + 1
-}
-
-fn put_two(out: &mut [u8], at: usize, x: usize) -> usize
-    requires { ⌜ at + 2 ≤ length (now out) ⌝ }
-    ensures { λ r. ⌜ Appended (now (out .entry)) at (two-bytes x) r (now (out .exit)) ⌝ }
-{
-    out[at] = (x % 256) as u8;
-    out[at + 1] = (x / 256 % 256) as u8;
-    at + 2
-}
-
-fn put_four(out: &mut [u8], at: usize, x: usize) -> usize
-    requires { ⌜ at + 4 ≤ length (now out) ⌝ }
-    ensures { λ r. ⌜ Appended (now (out .entry)) at (four-bytes x) r (now (out .exit)) ⌝ }
-{
-    out[at] = (x % 256) as u8;
-    out[at + 1] = (x / 256 % 256) as u8;
-    out[at + 2] = (x / 65536 % 256) as u8;
-    out[at + 3] = (x / 16777216 % 256) as u8;
-    at + 4
-}
-
-// Bytes that are given.
-fn put_all(out: &mut [u8], at: usize, text: &[u8]) -> usize
-    requires { ⌜ at + length (now text) ≤ length (now out) ⌝ }
-    ensures { λ r. ⌜ Appended (now (out .entry)) at (now (text .entry)) r (now (out .exit)) ⌝ }
-{
-    let mut i: usize = 0;
-    while i < text.len() {
-        out[at + i] = text[i];
-        i += 1;
-    }
-    at + text.len()
-}
-
 // k values from `place` on.
 fn put_values(out: &mut [u8], at: usize, values: &[u16], place: usize, k: usize) -> usize
-    requires { ⌜ (at + 2 * k ≤ length (now out)) × (place + k ≤ length (now values)) ⌝ }
+    requires { ⌜ place + k ≤ length (now values) ⌝ }
     ensures { λ r. ⌜ Appended (now (out .entry)) at (value-bytes (now (values .entry)) place k) r (now (out .exit)) ⌝ }
 {
     let mut to = at;
     let mut j: usize = 0;
     while j < k {
-        to = put_two(out, to, values[place + j] as usize);
+        to = put_two(out, to, wide16(values[place + j]));
         j += 1;
     }
     to
 }
 
 fn put_stamp(out: &mut [u8], at: usize, mask: u32, values: &[u16], place: usize) -> usize
-    requires { ⌜ (at + (4 + 2 * ones mask) ≤ length (now out)) × (place + ones mask ≤ length (now values)) ⌝ }
+    requires { ⌜ place + ones mask ≤ length (now values) ⌝ }
     ensures { λ r. ⌜ Appended (now (out .entry)) at (slot-stamp mask (now (values .entry)) place) r (now (out .exit)) ⌝ }
 {
-    let to = put_four(out, at, mask as usize);
+    let to = put_four(out, at, wide32(mask));
     put_values(out, to, values, place, ones_in(mask))
 }
 
 // What an event of this kind has among the stamps.
 fn put_piece(out: &mut [u8], at: usize, kind: u8, mask: u32, values: &[u16], place: usize) -> usize
-    requires { ⌜ (at + kind-size kind mask ≤ length (now out)) × (place + ones mask ≤ length (now values)) ⌝ }
+    requires { ⌜ place + ones mask ≤ length (now values) ⌝ }
     ensures { λ r. ⌜ Appended (now (out .entry)) at (kind-piece kind mask (now (values .entry)) place) r (now (out .exit)) ⌝ }
 {
-    if kind != 1 {
+    if kind != SEND {
         return at;
     }
     put_stamp(out, at, mask, values, place)
@@ -94,7 +61,7 @@ fn put_piece(out: &mut [u8], at: usize, kind: u8, mask: u32, values: &[u16], pla
 
 // The stamps of all sends.
 fn put_pieces(out: &mut [u8], at: usize, list: &[u8], masks: &[u32], values: &[u16]) -> usize
-    requires { ⌜ Slots (now list) (now masks) (now values) × (at + slot-size (now list) (now masks) ≤ length (now out)) ⌝ }
+    requires { ⌜ Slots (now list) (now masks) (now values) ⌝ }
     ensures { λ r. ⌜ Appended (now (out .entry)) at (slot-stamps (now (list .entry)) (now (masks .entry)) (now (values .entry))) r (now (out .exit)) ⌝ }
 {
     let m = list.len() / 8;
@@ -103,7 +70,7 @@ fn put_pieces(out: &mut [u8], at: usize, list: &[u8], masks: &[u32], values: &[u
     let mut i: usize = 0;
     while i < m {
         let mask = masks[i];
-        to = put_piece(out, to, list[8 * i], mask, values, place);
+        to = put_piece(out, to, kind_at(list, Position(i)), mask, values, place);
         place += ones_in(mask);
         i += 1;
     }
@@ -112,7 +79,6 @@ fn put_pieces(out: &mut [u8], at: usize, list: &[u8], masks: &[u32], values: &[u
 
 // The letters, the process count, the version and two zeros.
 fn put_start(out: &mut [u8], n: u8) -> usize
-    requires { ⌜ 24 ≤ length (now out) ⌝ }
     ensures { λ r. ⌜ Appended (now (out .entry)) 0 (text "CKT" ++ (n ∷ []) ++ two-bytes 1 ++ two-bytes 0) r (now (out .exit)) ⌝ }
 {
     let a = put_all(out, 0, b"CKT");
@@ -123,7 +89,7 @@ fn put_start(out: &mut [u8], n: u8) -> usize
 
 // Offset and size of the two parts.
 fn put_parts(out: &mut [u8], at: usize, events: usize, stamped: usize) -> usize
-    requires { ⌜ (at + 16 ≤ length (now out)) × (events ≤ 4096) ⌝ }
+    requires { ⌜ events ≤ 4096 ⌝ }
     ensures { λ r. ⌜ Appended (now (out .entry)) at (four-bytes 24 ++ four-bytes events ++ four-bytes (24 + events) ++ four-bytes stamped) r (now (out .exit)) ⌝ }
 {
     let a = put_four(out, at, 24);
@@ -133,7 +99,7 @@ fn put_parts(out: &mut [u8], at: usize, events: usize, stamped: usize) -> usize
 }
 
 fn put_header(out: &mut [u8], n: u8, events: usize, stamped: usize) -> usize
-    requires { ⌜ (24 ≤ length (now out)) × (events ≤ 4096) ⌝ }
+    requires { ⌜ events ≤ 4096 ⌝ }
     ensures { λ r. ⌜ Appended (now (out .entry)) 0 (header n events stamped) r (now (out .exit)) ⌝ }
 {
     let at = put_start(out, n);
@@ -149,7 +115,7 @@ pub(crate) fn stamps_size(list: &[u8], masks: &[u32]) -> usize
     let mut size: usize = 0;
     let mut i: usize = 0;
     while i < m {
-        size += piece_size(list[8 * i], masks[i]);
+        size += piece_size(kind_at(list, Position(i)), masks[i]);
         i += 1;
     }
     size
@@ -165,7 +131,7 @@ pub(crate) fn put_sheet(
     stamped: usize,
 ) -> usize
     requires { ⌜ Slots (now list) (now masks) (now values) × (length (now list) ≤ 4096)
-        × (stamped ≡ slot-size (now list) (now masks)) × (24 + length (now list) + stamped ≤ length (now out)) ⌝ }
+        × (stamped ≡ slot-size (now list) (now masks)) ⌝ }
     ensures { λ r. ⌜ Appended (now (out .entry)) 0 (slot-written n (now (list .entry)) (now (masks .entry)) (now (values .entry))) r (now (out .exit)) ⌝ }
 {
     let a = put_header(out, n, list.len(), stamped);
@@ -190,10 +156,7 @@ pub(crate) fn written(
     let size = 24 + list.len() + stamped;
     if out.len() < size {
         course::clear(n, list.len() / 8, clocks, masks, values);
-        return Wrote::Refused(Refusal {
-            number: 21,
-            position: Position(0),
-        });
+        return Wrote::Refused(Refusal::of_call(21));
     }
     put_sheet(out, n as u8, list, masks, values, stamped);
     Wrote::Done(list.len() / 8, size)

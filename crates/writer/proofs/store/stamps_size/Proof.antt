@@ -1,7 +1,7 @@
+use borrow.Author.Needs.{needs}
 use Prim.Native.Nat.{_≤_, _-_, _+_, _*_}
 use mathlib.Core.Path.{_≡_}
 use native.Mathlib.Omega.{arith}
-use borrow.Author.Needs.{needs}
 use Rattle.paper.specs.Event.{how-many}
 use Rattle.writer.specs.Sizes.{size-from, slot-size}
 use Rattle.writer.proofs.Sizes.{size-more, size-end, size-start}
@@ -20,9 +20,10 @@ loop-holds c = (omega arith, size-start _ _, omega arith)
 loop-again : tie.Need-loop-again Inv-loop μ-loop
 loop-again c =
     let l = c .before .before .before .before in
-    let a = l .before .before .before .args in (
+    let a = l .before .before .before .args in
+    let size = rw (c .before .before .kind-at .ensures) at (c .piece-size .ensures .0) in (
       omega arith,
-      omega (arith, l .loop .inv .1, size-more (a .list .now) (a .masks .now) (l .loop .i) (c .before .before .before .loop-test .taken), c .piece-size .ensures .0),
+      omega (arith, l .loop .inv .1, size-more (a .list .now) (a .masks .now) (l .loop .i) (c .before .before .before .loop-test .taken), size),
       omega arith,
     )
 
@@ -39,8 +40,7 @@ stamps-size-spec =
     Inv-loop
     μ-loop
     loop-holds
-    (λ c. search needs)
-    (λ c. search needs)
+    (λ c κs. search needs)
     (λ c. search needs)
     (λ c. search needs)
     (λ c κs. search needs)

@@ -1,5 +1,4 @@
 use native.Mathlib.Omega.{arith}
-use mathlib.Core.Path.{refl}
 use denote.Ref.{now}
 use Rattle.course.specs.Said.{work}
 use Rattle.writer.proofs.InOrder.{short-out, whole-out}
@@ -17,13 +16,16 @@ add-size-2 : tie.Need-add-size-2
 add-size-2 c = omega (arith, c .before .before .before .before .before .before .before .pre .2, c .stamps-size .ensures .1)
 
 returns : tie.Need-returns
-returns c = let a = c .before .before .before .before .before .before .before .before .before .before .before .before .before .before .before .before .before .before .args in short-out (a .n) (now (a .list)) (work (now (a .clocks)) (now (a .masks)) (now (a .values))) (now (a .out)) _ (c .before .before .before .before .before .before .before .before .before .before .before .stamps-size .ensures .0) _ _ refl (c .before .before .before .before .before .before .before .before .before .before .if1 .taken) (c .before .before .before .before .before .before .clear .ensures)
+returns c =
+    let a = c .before .before .before .before .before .before .before .before .before .before .before .before .before .before .before .before .before .before .before .args in
+    short-out (a .n) (now (a .list)) (work (now (a .clocks)) (now (a .masks)) (now (a .values))) (now (a .out)) _ (c .before .before .before .before .before .before .before .before .before .before .before .before .stamps-size .ensures .0) _ _ (c .of-call .ensures)
+    (c .before .before .before .before .before .before .before .before .before .before .before .if1 .taken) (c .before .before .before .before .before .before .before .clear .ensures)
 
 cast-put-sheet : tie.Need-cast-put-sheet
 cast-put-sheet c = omega (arith, c .before .before .before .before .before .before .before .before .before .pre .0)
 
 put-sheet-requires : tie.Need-put-sheet-requires
-put-sheet-requires c κs = let h = c .before .before .before .before .before .before .before .before .before .before .before .pre in (h .1, h .2, c .before .before .before .before .stamps-size .ensures .0, c .before .before .before .if1 .left)
+put-sheet-requires c κs = let h = c .before .before .before .before .before .before .before .before .before .before .before .pre in (h .1, h .2, c .before .before .before .before .stamps-size .ensures .0)
 
 returns-2 : tie.Need-returns-2
 returns-2 c = let a = c .before .before .before .before .before .before .before .before .before .before .before .before .before .before .args in whole-out (a .n) (now (a .list)) (work (now (a .clocks)) (now (a .masks)) (now (a .values))) (now (a .out)) _ (c .before .before .before .before .before .before .before .stamps-size .ensures .0) _ (c .before .before .before .before .before .before .if1 .left) (c .before .before .put-sheet .ensures .bytes)
@@ -35,6 +37,7 @@ written-spec =
     stamps-size-requires
     add-size
     add-size-2
+    (λ c κs. search needs)
     (λ c κs. search needs)
     (λ c. search needs)
     (λ c. search needs)
