@@ -80,7 +80,6 @@ module _ (n : ℕ) (list old clocks : List ℕ) (given : Given n list) (long : n
         some = given .processes .0;
         few = small;
         brief = omega arith;
-        bytes = omega arith;
         slots = long;
         all = many;
         event = event;

@@ -1,6 +1,6 @@
 -- The walk of the chain over the bytes and slots of an accepted list: the scan for the learner, the crossing of its message, and what is stored.
 use Prim.Native.Nat.{ℕ, suc, _+_, _*_, _≤_, _<_}
-use native.Mathlib.Nat.{eq-or-lt-of-le, mul-le-mul, mul-le-mul-left}
+use native.Mathlib.Nat.{eq-or-lt-of-le, mul-le-mul-left}
 use native.Mathlib.Omega.{arith}
 use mathlib.Core.Path.{_≡_, sym, ap, _∙_}
 use mathlib.Core.Logic.{_≢_, _⊎_, inl, inr}
@@ -10,7 +10,7 @@ use lib.Dec.{eqb, leb}
 use lib.ListN.{length, getD, set, length-append}
 use lib.Seq.{sets}
 use borrow.Author.Tests.{eqb-true, leb-true, eq-eqb, le-leb, not-true, not-false}
-use Rattle.paper.specs.Bytes.{two}
+use Rattle.clock.specs.Event.{process-at, message-at}
 use Rattle.paper.specs.Chain.{own-number, learner, sender, chain}
 use Rattle.paper.specs.Clock.{part}
 use Rattle.paper.specs.Event.{Event, event-at, events-of, how-many}
@@ -24,7 +24,7 @@ use Rattle.paper.proofs.Laws.Sends.{crossing, sender-inside}
 use Rattle.paper.proofs.Laws.Stores.{stored}
 use Rattle.paper.proofs.Laws.Tests.{and-both, and-true}
 use Rattle.course.specs.Said.{of-list}
-use Rattle.order.specs.Stands.{Stands, Reaches, process-at, knows, Sent}
+use Rattle.order.specs.Stands.{Stands, Reaches, knows, Sent}
 
 module _ (n : ℕ) (list clocks : List ℕ) (s : Stands n list clocks) where
   abbrev es : List Clocked
@@ -37,12 +37,9 @@ module _ (n : ℕ) (list clocks : List ℕ) (s : Stands n list clocks) where
   unfolding event-at
   process c h = ap (λ (e : Event). e .process) (s .event c h)
 
-  -- The bytes and the slots of an event of the list.
-  pub there : (c : ℕ) → c < how-many list → (8 * c + 8 ≤ length list) × (n * c + n ≤ length clocks) × (n * c + n ≤ 16384) × (c < 512)
-  there c h =
-      let x : n * suc c ≤ n * how-many list = mul-le-mul-left n h in
-      let y : n * how-many list ≤ 32 * 512 = mul-le-mul (s .few) (s .brief) in
-      (omega (arith, s .bytes), omega (arith, s .slots), omega arith, omega (arith, s .brief))
+  -- The slots of an event of the list.
+  pub there : (c : ℕ) → c < how-many list → (n * c + n ≤ length clocks) × (c < 512)
+  there c h = let x : n * suc c ≤ n * how-many list = mul-le-mul-left n h in (omega (arith, s .slots), omega (arith, s .brief))
 
   module _ (a b : ℕ) (r : Reaches n list a b) where
     right : Right es a b
@@ -72,9 +69,6 @@ module _ (n : ℕ) (list clocks : List ℕ) (s : Stands n list clocks) where
 
       found-inside : found < how-many list
       found-inside = omega (arith, crossed .along .1, r .to)
-
-      pub found-there : (f : ℕ) → f ≡ found → (8 * f + 8 ≤ length list) × (f < 512)
-      found-there f is = let t = there found found-inside in (omega (arith, t .0), omega (arith, t .3))
 
       -- The scan at c has not passed the learner.
       module _ (p c : ℕ) (e : p ≡ process-at list a) (l : c ≤ found) where
@@ -117,10 +111,10 @@ module _ (n : ℕ) (list clocks : List ℕ) (s : Stands n list clocks) where
                 (omega (arith, own, slot p c e scan-inside)))
 
       -- The learner is found, and the number of its message read.
-      module _ (f message : ℕ) (is : f ≡ found) (reads : message ≡ two list (8 * f + 4)) where
+      module _ (f message : ℕ) (is : f ≡ found) (reads : message ≡ message-at list f) where
         has-number : message ≡ event-of es found .message
         unfolding event-at
-        has-number = reads ∙ ap (λ (k : ℕ). two list (8 * k + 4)) is ∙ ap (λ (e : Event). e .message) (sym (s .event found found-inside))
+        has-number = reads ∙ ap (message-at list) is ∙ ap (λ (e : Event). e .message) (sym (s .event found found-inside))
 
         pub was-sent : (d : ℕ) × Sent list message d
         unfolding event-at
@@ -132,7 +126,6 @@ module _ (n : ℕ) (list clocks : List ℕ) (s : Stands n list clocks) where
               d,
               record {
                 brief = s .brief;
-                bytes = s .bytes;
                 inside = h;
                 kind = ap (λ (e : Event). e .kind) e ∙ x .sends;
                 number = ap (λ (e : Event). e .message) e ∙ x .number ∙ sym has-number;

@@ -9,8 +9,8 @@ use Rattle.order.specs.declared.Compared.the-variants as compared-as
 
 abbrev pub compared : declared-compared.Compared → Outcome ℕ
 compared (compared-as.Refused r) = refused (refusal r)
-compared (compared-as.Judged v) = done (number v)
+compared (compared-as.Done v) = done (number v)
 
 abbrev pub chained : declared-chained.Chained → Outcome ℕ
 chained (chained-as.Refused r) = refused (refusal r)
-chained (chained-as.Length k) = done k
+chained (chained-as.Done k) = done k

@@ -20,13 +20,13 @@ use course::Judged;
 // What comparing two events of a list answers.
 pub enum Compared {
     Refused(Refusal),
-    Judged(Verdict),
+    Done(Verdict),
 }
 
 // What asking for the chain from one event to another answers: how many sends it has.
 pub enum Chained {
     Refused(Refusal),
-    Length(usize),
+    Done(usize),
 }
 
 // A refusal after the events: the slots named for m events of n processes are set to 0.
@@ -43,10 +43,7 @@ fn refuse(
         ≡ late n m (work (now (clocks .entry)) (now (masks .entry)) (now (values .entry)))) ⌝ }
 {
     course::clear(n, m, clocks, masks, values);
-    Refusal {
-        number: given,
-        position: Position(0),
-    }
+    Refusal::of_call(given)
 }
 
 // The verdict on the clocks of two events, whose n slots each begin at n times the position.
@@ -84,7 +81,7 @@ pub fn compare(
             if !(first.0 < m) | !(second.0 < m) {
                 return Compared::Refused(refuse(20, n, m, clocks, masks, values));
             }
-            Compared::Judged(judge(n, clocks, first, second))
+            Compared::Done(judge(n, clocks, first, second))
         }
     }
 }
@@ -129,12 +126,12 @@ pub fn chain(
     let asked = compare(n, list, clocks, masks, values, first, second);
     match asked {
         Compared::Refused(r) => Chained::Refused(r),
-        Compared::Judged(v) => {
+        Compared::Done(v) => {
             let late = late_number(v, room(n), out.len());
             if late != 0 {
                 return Chained::Refused(refuse(late, n, list.len() / 8, clocks, masks, values));
             }
-            Chained::Length(path::walk(n, list, clocks, first, second, out))
+            Chained::Done(path::walk(n, list, clocks, first, second, out))
         }
     }
 }

@@ -1,3 +1,4 @@
+use borrow.Author.Needs.{needs}
 use Prim.Native.Nat.{_-_}
 use native.Mathlib.Omega.{arith}
 use Rattle.paper.specs.Event.{how-many}
@@ -14,11 +15,8 @@ abbrev μ-loop : tie.MeasureT-loop
 loop-holds : tie.Need-loop-holds Inv-loop μ-loop
 loop-holds c = seek-start (c .before .pre)
 
-is-send-of-requires : tie.Need-is-send-of-requires Inv-loop μ-loop
-is-send-of-requires c κs = seek-room (c .loop .inv)
-
 add-c : tie.Need-add-c Inv-loop μ-loop
-add-c c = omega (arith, seek-room (c .before .before .loop .inv) .1)
+add-c c = omega (arith, seek-room (c .before .before .loop .inv))
 
 loop-less : tie.Need-loop-less Inv-loop μ-loop
 loop-less c = let i = c .before .before .loop .inv in omega (arith, i .ahead, i .sent .inside)
@@ -32,4 +30,4 @@ returns c = seek-found (c .before .before .loop .inv) _ (c .before .is-send-of .
 pub sender-spec : {M : Type 1} → statement M
 sender-spec =
     tie.close
-    (tie.spec Inv-loop μ-loop loop-holds is-send-of-requires add-c loop-less loop-again returns)
+    (tie.spec Inv-loop μ-loop loop-holds (λ c κs. search needs) add-c loop-less loop-again returns)
