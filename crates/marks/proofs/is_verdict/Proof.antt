@@ -7,10 +7,10 @@ use Rattle.marks.proofs.is_verdict.Statement.{statement}
 use Rattle.marks.proofs.is_verdict.Tie as tie
 
 returns : tie.Need-returns
-returns c = let p = c .before .before .before .before .before .before .pre in absurd (rows-accepted _ _ _ _ (p .0) (p .1) (p .4) (p .5) _ (ap ordered (sym (c .enum-told .given .1)) ∙ c .before .before .order .ensures))
+returns c = let p = c .before .before .before .before .before .before .before .before .pre in absurd (rows-accepted _ _ _ _ (p .0) (p .1) (p .4) (p .5) _ (ap ordered (sym (c .enum-told .given .1)) ∙ c .before .before .order .ensures))
 
 returns-2 : tie.Need-returns-2
-returns-2 c = let p = c .before .before .before .before .before .before .before .before .pre in ap (eqb _) (c .number .ensures .0 ∙ rows-judged _ _ _ _ (p .0) (p .1) (p .4) (p .5) _ (ap ordered (sym (c .before .before .v .given .1)) ∙ c .before .before .before .before .order .ensures))
+returns-2 c = let p = c .before .before .before .before .before .before .before .before .before .before .pre in ap (eqb _) (c .number .ensures .0 ∙ rows-judged _ _ _ _ (p .0) (p .1) (p .4) (p .5) _ (ap ordered (sym (c .before .before .v .given .1)) ∙ c .before .before .before .before .order .ensures))
 
 pub is-verdict-spec : {M : Type 1} → statement M
 is-verdict-spec =

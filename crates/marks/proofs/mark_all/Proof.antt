@@ -15,7 +15,7 @@ loop-holds : tie.Need-loop-holds Inv-loop μ-loop
 loop-holds c = to-start _ _ _ _ _ _
 
 mark-at-requires : tie.Need-mark-at-requires Inv-loop μ-loop
-mark-at-requires c κs = let s = c .before .before .before .before .before .pre in (s .0, omega (arith, c .loop-test .taken), omega (arith, s .1, c .loop-test .taken))
+mark-at-requires c κs = let s = c .before .before .before .before .before .pre in (s .0, omega (arith, s .1, c .loop-test .taken))
 
 slice-write-marks : tie.Need-slice-write-marks Inv-loop μ-loop
 slice-write-marks c = omega (arith, c .before .before .loop .inv .long, c .before .loop-test .taken, c .before .before .before .before .before .before .pre .2)

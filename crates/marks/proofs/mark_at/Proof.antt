@@ -7,18 +7,28 @@ use Rattle.marks.proofs.mark_at.Statement.{statement}
 use Rattle.marks.proofs.mark_at.Tie as tie
 
 returns : tie.Need-returns
-returns c = missing _ _ _ (now (c .before .before .before .before .before .before .args .lines)) (c .before .before .before .before .before .before .args .j) _ _ _ (c .before .before .before .two .ensures) (c .before .before .two2 .ensures) (c .before .two3 .ensures) (c .if1 .taken)
+returns c =
+    let a = c .before .before .before .before .before .before .before .before .args in
+    missing _ _ _ (now (a .lines)) (a .j) _ _ _ (c .before .before .before .before .before .number-at .ensures) (c .before .before .before .before .number-at2 .ensures) (c .before .before .before .number-at3 .ensures) (c .if1 .taken)
 
 is-verdict-requires : tie.Need-is-verdict-requires
 is-verdict-requires c κs =
-    let r = rows-there _ _ _ (now (c .before .before .before .before .before .before .args .lines)) (c .before .before .before .before .before .before .args .j) _ _ _ (c .before .before .before .two .ensures) (c .before .before .two2 .ensures) (c .before .two3 .ensures) (c .if1 .left) (c .before .before .before .before .before .before .pre .0) in
+    let a = c .before .before .before .before .before .before .before .before .args in
+    let r =
+    rows-there _ _ _ (now (a .lines)) (a .j) _ _ _ (c .before .before .before .before .before .number-at .ensures) (c .before .before .before .before .number-at2 .ensures) (c .before .before .before .number-at3 .ensures) (c .if1 .left) (c .before .before .before .before .before .before .before .before .pre .0) in
     (r .0, r .1, omega (arith, r .2, r .3), omega (arith, r .2, r .3), omega (arith, r .4, r .5), omega (arith, r .4, r .5))
 
 returns-2 : tie.Need-returns-2
-returns-2 c = found _ _ _ (now (c .before .before .before .before .before .before .before .before .args .lines)) (c .before .before .before .before .before .before .before .before .args .j) _ _ _ (c .before .before .before .before .before .two .ensures) (c .before .before .before .before .two2 .ensures) (c .before .before .before .two3 .ensures) (c .before .before .if1 .left) _ (c .before .is-verdict .ensures) true (c .if2 .taken)
+returns-2 c =
+    let a = c .before .before .before .before .before .before .before .before .before .before .args in
+    found _ _ _ (now (a .lines)) (a .j) _ _ _ (c .before .before .before .before .before .before .before .number-at .ensures) (c .before .before .before .before .before .before .number-at2 .ensures) (c .before .before .before .before .before .number-at3 .ensures) (c .before .before .if1 .left) _ (c .before .is-verdict .ensures) true
+    (c .if2 .taken)
 
 returns-3 : tie.Need-returns-3
-returns-3 c = found _ _ _ (now (c .before .before .before .before .before .before .before .before .args .lines)) (c .before .before .before .before .before .before .before .before .args .j) _ _ _ (c .before .before .before .before .before .two .ensures) (c .before .before .before .before .two2 .ensures) (c .before .before .before .two3 .ensures) (c .before .before .if1 .left) _ (c .before .is-verdict .ensures) false (c .if2 .left)
+returns-3 c =
+    let a = c .before .before .before .before .before .before .before .before .before .before .args in
+    found _ _ _ (now (a .lines)) (a .j) _ _ _ (c .before .before .before .before .before .before .before .number-at .ensures) (c .before .before .before .before .before .before .number-at2 .ensures) (c .before .before .before .before .before .number-at3 .ensures) (c .before .before .if1 .left) _ (c .before .is-verdict .ensures) false
+    (c .if2 .left)
 
 pub mark-at-spec : {M : Type 1} → statement M
 mark-at-spec =
