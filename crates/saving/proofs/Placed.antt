@@ -7,7 +7,7 @@ use lib.Ieee.{Float}
 use lib.ListN.{length, set}
 use borrow.Author.Tests.{lt-ltb, le-ltb}
 use Rattle.paper.specs.Buffers.{Work}
-use Rattle.paper.specs.Refusals.{of-call, refused, done}
+use Rattle.paper.specs.Refusals.{Refusal, of-call, refused, done}
 use Rattle.paper.specs.Savings.{Counts, Saving, no-messages, percent, saving, stored}
 use Rattle.course.specs.Said.{late}
 use Rattle.saving.specs.Slots.{placing}
@@ -28,8 +28,10 @@ put-nowhere (percent x) [] h = refl
 put-nowhere (percent x) (y ∷ out) h = let z : ⊥ = omega arith in absurd z
 
 module _ (c : Counts) (w : Work) (out : List Float) where
-  pub placing-late : (w′ : Work) → length out < 1 → w′ ≡ late (c .processes) (c .events) w → (refused (of-call 21), w′, out) ≡ placing c w out
-  placing-late w′ h e = rw (lt-ltb (length out) 1 h) (λ i. (refused (of-call 21), e i, out))
+  pub placing-late :
+      (given : Refusal) (w′ : Work) → length out < 1 → given ≡ of-call 21 → w′ ≡ late (c .processes) (c .events) w
+      → (refused given, w′, out) ≡ placing c w out
+  placing-late given w′ h g e = rw (lt-ltb (length out) 1 h) (λ i. (refused (g i), e i, out))
 
   pub placing-done : (s : Saving) (out′ : List Float) → 1 ≤ length out → s ≡ saving c → out′ ≡ stored s out → (done s, w, out′) ≡ placing c w out
   placing-done s out′ h e o =

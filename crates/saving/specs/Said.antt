@@ -15,7 +15,7 @@ counts c = record { processes = c .processes; events = c .events; sends = c .sen
 
 abbrev pub counted : declared-counted.Counted → Outcome paper.Counts
 counted (counted-code.Refused r) = refused (refusal r)
-counted (counted-code.Of c) = done (counts c)
+counted (counted-code.Done c) = done (counts c)
 
 abbrev pub saving : declared-saving.Saving → paper.Saving
 saving saving-code.NoMessages = paper.no-messages
@@ -23,4 +23,4 @@ saving (saving-code.Percent x) = paper.percent x
 
 abbrev pub saved : declared-saved.Saved → Outcome paper.Saving
 saved (saved-code.Refused r) = refused (refusal r)
-saved (saved-code.Told s) = done (saving s)
+saved (saved-code.Done s) = done (saving s)

@@ -9,8 +9,9 @@ use Rattle.saving.proofs.place.Tie as tie
 
 returns : tie.Need-returns
 returns c =
-    let a = c .before .before .before .before .before .before .before .before .before .before .before .before .before .before .before .args in
-    placing-late (counts (a .c)) (work (now (a .clocks)) (now (a .masks)) (now (a .values))) (now (a .percent)) _ (omega (arith, c .before .before .before .before .before .before .before .before .before .before .if1 .taken)) (c .before .before .before .before .before .before .clear .ensures)
+    let a = c .before .before .before .before .before .before .before .before .before .before .before .before .before .before .before .before .args in
+    placing-late (counts (a .c)) (work (now (a .clocks)) (now (a .masks)) (now (a .values))) (now (a .percent)) _ _ (omega (arith, c .before .before .before .before .before .before .before .before .before .before .before .if1 .taken)) (c .of-call .ensures)
+    (c .before .before .before .before .before .before .before .clear .ensures)
 
 returns-2 : tie.Need-returns-2
 returns-2 c =
@@ -21,6 +22,7 @@ pub place-spec : {M : Type 1} → statement M
 place-spec =
     tie.close
     (tie.spec
+    (λ c κs. search needs)
     (λ c κs. search needs)
     (λ c. search needs)
     (λ c. search needs)

@@ -1,9 +1,11 @@
 -- The loop has counted the sends of the first i events.
-use Prim.Native.Nat.{_≤_, _-_}
+use Prim.Native.Nat.{ℕ, _≤_, _-_}
+use mathlib.Core.Bool.{cond}
 use mathlib.Core.Path.{_≡_, ap, _∙_}
 use native.Mathlib.Omega.{arith}
+use lib.Dec.{eqb}
 use borrow.Author.Needs.{needs}
-use Rattle.paper.specs.Event.{how-many}
+use Rattle.paper.specs.Event.{send, how-many}
 use Rattle.saving.specs.Slots.{slot-sends}
 use Rattle.saving.proofs.Sends.{none-sent, sent-more}
 use Rattle.saving.proofs.sends_in.Statement.{statement}
@@ -20,9 +22,10 @@ loop-holds c = (omega arith, none-sent (c .before .args .list .now), omega arith
 
 loop-again : tie.Need-loop-again Inv-loop μ-loop
 loop-again c =
-    let l = c .before .before .before .loop in (
+    let l = c .before .before .before .loop in
+    let x = c .one-send .ensures .0 ∙ ap (λ (k : ℕ). cond (eqb k send) 1 0) (c .before .kind-at .ensures) in (
       omega (arith, c .before .before .loop-test .taken),
-      sent-more (c .before .before .before .before .before .args .list .now) (l .i) (l .sends) _ (l .inv .1) (c .one-send .ensures .0),
+      sent-more (c .before .before .before .before .before .args .list .now) (l .i) (l .sends) _ (l .inv .1) x,
       omega (arith, l .inv .2, c .one-send .ensures .1),
     )
 
@@ -39,8 +42,7 @@ sends-in-spec =
     Inv-loop
     μ-loop
     loop-holds
-    (λ c. search needs)
-    (λ c. search needs)
+    (λ c κs. search needs)
     (λ c κs. search needs)
     (λ c. search needs)
     (λ c. search needs)
