@@ -1,52 +1,23 @@
 -- Where the work buffers hold the stamps of an accepted list, the pieces by the slots are the paper's pieces, and the slots are all there.
-use Prim.Native.Nat.{ℕ, zero, suc, _+_, _*_, _≤_, _<_}
-use mathlib.Core.List.{List, [], _∷_, _++_, append-assoc, flatMap, map, zipWith}
-use mathlib.Core.Logic.{_⊎_, inl, inr}
+use Prim.Native.Nat.{ℕ, zero, suc, _+_, _≤_, _<_}
+use mathlib.Core.List.{List, [], _∷_, _++_, append-assoc, flatMap, zipWith}
 use mathlib.Core.Path.{_≡_, refl, sym, ap, ap₂, _∙_}
-use native.Mathlib.Nat.{eq-or-lt-of-le, le-of-suc-le-suc}
 use native.Mathlib.Omega.{arith}
 use lib.Count.{ones}
 use lib.ListN.{length, getD, take, drop, replicate, length-append, length-take, length-drop, length-map, List·getD-append, List·getD-map}
-use lib.Seq.{take-append-le, drop-append-le, take-all, getD-at}
-use borrow.Author.Tests.{eq-eqb}
+use lib.Seq.{take-append-le, drop-append-le, take-all}
 use Rattle.paper.specs.Buffers.{Work, laid, mask-slots, value-slots, all-ones, values-begin, filled}
-use Rattle.paper.specs.Clock.{Clock}
-use Rattle.paper.specs.Event.{Event, event-at, how-many, first-events, events-of}
-use Rattle.paper.specs.Machine.{State, Clocked, start, answer, offered, answers, clocked}
+use Rattle.paper.specs.Event.{Event, event-at, how-many, events-of}
+use Rattle.paper.specs.Machine.{Clocked, start, answers, clocked}
 use Rattle.paper.specs.Order.{nothing}
 use Rattle.paper.specs.Sheet.{piece, pieces}
-use Rattle.paper.specs.Stamp.{Stamp, no-stamp, never-sent, previous, stamps, stamps-after}
+use Rattle.paper.specs.Stamp.{Stamp, no-stamp, never-sent, stamps}
 use Rattle.paper.proofs.Laws.Runs.{length-events}
+use Rattle.paper.proofs.Laws.Slots.{length-stamps}
 use Rattle.paper.proofs.Ones.{each-stamp, values-stand}
 use Rattle.clock.specs.Event.{kind-at}
+use Rattle.clock.proofs.Events.{event-there, all-accepted}
 use Rattle.sheet.specs.Slots.{slot-stamp, kind-piece, pieces-from, slot-pieces, Slots}
-
--- The event at i of a list is the one whose record begins at byte 8 * i.
-event-there : (list : List ℕ) (k i : ℕ) → i < k → getD (first-events k list) i (nothing .event) ≡ event-at list (8 * i)
-unfolding first-events
-event-there list zero i h = absurd (omega arith)
-event-there list (suc k) i h = go (event-there list k i) (eq-or-lt-of-le (le-of-suc-le-suc h))
-  where
-    go :
-        (i < k → getD (first-events k list) i (nothing .event) ≡ event-at list (8 * i)) → (i ≡ k) ⊎ (i < k)
-        → getD (first-events k list ++ (event-at list (8 * k) ∷ [])) i (nothing .event) ≡ event-at list (8 * i)
-    go ih (inl e) =
-        rw e (getD-at (first-events k list) (event-at list (8 * k)) [] (nothing .event) k (length-events k list))
-    go ih (inr l) = List·getD-append (first-events k list) _ (nothing .event) i (omega (arith, length-events k list)) ∙ ih l
-
--- Where every offer is answered 0, the accepted events are the offers.
-all-accepted : (n : ℕ) (es : List Event) (s : State) → answers n s es ≡ replicate (length es) 0 → map (λ c. c .event) (clocked n s es) ≡ es
-unfolding answers clocked
-all-accepted n [] s h = refl
-all-accepted n (e ∷ es) s h =
-    let z : answer n s e ≡ 0 = cc in
-    let r : answers n (offered n s e) es ≡ replicate (length es) 0 = cc in
-    rw (eq-eqb (answer n s e) 0 z) (ap (λ (l : List Event). e ∷ l) (all-accepted n es (offered n s e) r))
-
-length-stamps : (cs : List Clocked) (last : ℕ → ℕ → Clock) → length (stamps-after last cs) ≡ length cs
-unfolding stamps-after
-length-stamps [] last = refl
-length-stamps (c ∷ cs) last = ap suc (length-stamps cs (previous last c))
 
 -- As many ones as values.
 ones-all :
@@ -108,7 +79,7 @@ module _ (n : ℕ) (list : List ℕ) (ok : answers n start (events-of list) ≡ 
   unfolding event-at
   kind-there i h =
       ap (λ (e : Event). e .kind)
-      (sym (event-there list (how-many list) i h)
+      (sym (event-there list (nothing .event) (how-many list) i h)
       ∙ ap (λ (es : List Event). getD es i (nothing .event)) (sym (all-accepted n (events-of list) start ok))
       ∙ List·getD-map (λ c. c .event) cs i nothing)
 

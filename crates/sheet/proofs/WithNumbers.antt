@@ -4,7 +4,7 @@ use native.Mathlib.Decide.{ℕ-discrete, decLt}
 use native.Mathlib.Omega.{arith}
 use mathlib.Core.Path.{_≡_, refl, sym, ap, ap₂, _∙_}
 use mathlib.Core.Logic.{_≢_, _⊎_, inl, inr}
-use mathlib.Core.Bool.{Bool, true, false, cond, _||_, or-false}
+use mathlib.Core.Bool.{Bool, true, cond, _||_, or-false}
 use mathlib.Core.List.{List, []}
 use lib.Dec.{eqb, ltb}
 use lib.ListN.{length, take, drop, replicate, length-replicate}
@@ -21,6 +21,7 @@ use Rattle.paper.proofs.LamportBelow.Lists.{length-lamports}
 use Rattle.paper.proofs.Laws.Refused.{after-early, left-done, left-early, left-late}
 use Rattle.paper.proofs.Laws.Runs.{clocked-few, length-events}
 use Rattle.paper.proofs.Laws.Stores.{length-laid}
+use Rattle.clock.proofs.Laws.{or-true}
 use Rattle.course.specs.Said.{late, late-lamports, of-list}
 use Rattle.course.proofs.Passed.{is-refused, laid-again, Passed}
 use Rattle.sheet.specs.declared.header.Parts.{Parts}
@@ -28,10 +29,6 @@ use Rattle.sheet.specs.Header.{parts-in}
 use Rattle.sheet.proofs.Checks.{header-then}
 use Rattle.sheet.specs.Slots.{slot-pieces}
 use Rattle.sheet.proofs.InOrder.{small-number, head, list-long, recorded, list-then, stamps-then, stamps-late, cut, count-is, list-is, course-refused, passed, same-stamps, stamps-differ, stamps-agree}
-
-or-true : (b : Bool) → (b || true) ≡ true
-or-true true = refl
-or-true false = refl
 
 module _ (b : List ℕ) (w : Work) (numbers : List ℕ) where
   abbrev n : ℕ

@@ -1,3 +1,4 @@
+-- The kind, and behind it the three numbers, as they stand in the event's bytes.
 use native.Mathlib.Omega.{arith}
 use Rattle.octets.proofs.Appended.{join, same}
 use Rattle.lines.proofs.Slots.{fields-are}

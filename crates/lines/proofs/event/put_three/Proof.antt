@@ -1,3 +1,4 @@
+-- Three numbers, one behind the other.
 use native.Mathlib.Omega.{arith}
 use Rattle.octets.proofs.Appended.{join}
 use borrow.Author.Needs.{needs}

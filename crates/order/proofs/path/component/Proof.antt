@@ -1,5 +1,5 @@
+-- The process's number is the same as an index.
 use mathlib.Core.Path.{ap}
-use native.Mathlib.Omega.{arith}
 use Prim.Native.Nat.{ℕ, _+_, _*_}
 use lib.ListN.{getD}
 use borrow.Author.Needs.{needs}

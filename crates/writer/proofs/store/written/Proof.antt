@@ -1,3 +1,4 @@
+-- 21 where the output is too short, and otherwise the whole sheet.
 use native.Mathlib.Omega.{arith}
 use denote.Ref.{now}
 use Rattle.course.specs.Said.{work}
