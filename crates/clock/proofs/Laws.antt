@@ -3,10 +3,9 @@ use Prim.Native.Nat.{ℕ}
 use mathlib.Core.Path.{_≡_, refl, sym, ap, _∙_}
 use mathlib.Core.Bool.{Bool, true, false, cond, _&&_, _||_, not}
 use mathlib.Core.List.{List}
-use native.Mathlib.Omega.{arith}
 use lib.Dec.{eqb, ltb}
 use lib.ListN.{length}
-use borrow.Author.Tests.{ltb-false, eqb-true, not-false}
+use borrow.Author.Tests.{eqb-true, not-false}
 use Rattle.paper.specs.Order.{within}
 use Rattle.paper.specs.Questions.{ordering}
 use Rattle.paper.specs.Terms.{wrong-count}
@@ -21,17 +20,16 @@ or-self : (x : Bool) → (x || x || false) ≡ (x || false)
 or-self true = refl
 or-self false = refl
 
-or-true : (x y : Bool) → (x || y || true) ≡ (x || true)
-or-true true y = refl
-or-true false true = refl
-or-true false false = refl
+pub or-true : (b : Bool) → (b || true) ≡ true
+or-true true = refl
+or-true false = refl
 
 same-test : (a b : ℕ) → (wrong-count a || wrong-count b || not (eqb a b)) ≡ unfit a b
 same-test a b = go (eqb a b) refl
   where
     go : (t : Bool) → eqb a b ≡ t → (wrong-count a || wrong-count b || not t) ≡ (wrong-count a || not t)
     go true e = ap (λ c. wrong-count a || wrong-count c || false) (sym (eqb-true a b e)) ∙ or-self (wrong-count a)
-    go false e = or-true (wrong-count a) (wrong-count b)
+    go false e = or-true (wrong-count a || wrong-count b) ∙ sym (or-true (wrong-count a))
 
 module _ (v w : List ℕ) where
   pub ordering-refused : unfit (length v) (length w) ≡ true → refused (of-call 4) ≡ ordering v w

@@ -3,27 +3,28 @@
 use Prim.Native.Nat.{ℕ, zero, suc, _+_, _-_, _*_, _≤_, _<_}
 use mathlib.Core.Path.{_≡_, refl, sym, ap, _∙_}
 use mathlib.Core.Bool.{Bool, true, false, cond}
-use mathlib.Core.Logic.{⊎-elim}
 use mathlib.Core.List.{List, [], _∷_, _++_, flatMap, append-nil, append-assoc}
-use native.Mathlib.Nat.{zero-add, add-assoc, mul-suc, mul-zero, eq-or-lt-of-le, le-of-suc-le-suc}
+use native.Mathlib.Nat.{zero-add, add-assoc, mul-suc, mul-zero}
 use native.Mathlib.Numerals.{add-one, one-add}
 use native.Mathlib.Omega.{arith}
 use borrow.Author.Tests.{eq-eqb, eqb-true, le-leb}
 use lib.Dec.{eqb}
 use lib.ListN.{length, getD, take, drop, replicate, length-replicate, getD-replicate, length-append, length-map, List·getD-append}
-use lib.Seq.{length-take-le, take-at, take-append-seam, getD-at, drop-append-add, drop-cons, drop-length}
+use lib.Seq.{length-take-le, take-at, take-append-seam, drop-append-add, drop-cons, drop-length}
 use Rattle.paper.specs.Buffers.{Work, laid, clock-slots, mask-slots, entries, filled}
 use Rattle.paper.specs.Bytes.{byte}
 use Rattle.paper.specs.Clock.{Clock}
-use Rattle.paper.specs.Event.{Event, event-at, first-events, how-many, events-of}
+use Rattle.paper.specs.Event.{Event, how-many, events-of}
 use Rattle.paper.specs.Lamport.{no-scalars, lamports}
 use Rattle.paper.specs.Listing.{word, event-words, event-line, event-lines, lamport-line, lamport-lines, head-line, listing, lamport-listing}
 use Rattle.paper.specs.Machine.{State, Clocked, start, answer, offered, answers, clocked}
 use Rattle.paper.specs.Order.{clock-of, event-of, nothing}
-use Rattle.paper.specs.Stamp.{Stamp, no-stamp, never-sent, previous, stamps-after, stamps}
+use Rattle.paper.specs.Stamp.{Stamp, no-stamp, never-sent, stamps}
 use Rattle.paper.proofs.LamportBelow.Lists.{length-lamports}
 use Rattle.paper.proofs.Laws.Append.{length-answers}
 use Rattle.paper.proofs.Laws.Runs.{length-events}
+use Rattle.paper.proofs.Laws.Slots.{length-stamps}
+use Rattle.clock.proofs.Events.{event-there}
 use Rattle.paper.proofs.Sizes.{sized}
 use Rattle.lines.specs.Programs.{chain-line, chain-text, accepted-of, refused-line, offer-line, class-text, class-line, class-head, class-listing}
 use Rattle.lines.specs.Slots.{slot-words, last-field, slot-line, numbered-text, listing-text, listing-lamport-text}
@@ -34,14 +35,6 @@ pub each-same : (f g : ℕ → List ℕ) (k : ℕ) → ((i : ℕ) → i < k → 
 unfolding each
 each-same f g zero h = refl
 each-same f g (suc k) h = rw (each-same f g k (λ i l. h i (omega arith)), h k (omega arith))
-
--- The event at each position.
-events-at : (k : ℕ) (list : List ℕ) (i : ℕ) → i < k → getD (first-events k list) i (nothing .event) ≡ event-at list (8 * i)
-unfolding first-events
-events-at zero list i h = absurd (omega arith)
-events-at (suc k) list i h =
-    ⊎-elim (λ e. rw e (getD-at (first-events k list) _ [] _ k (length-events k list)))
-    (λ l. List·getD-append (first-events k list) _ _ i (omega (arith, length-events k list)) ∙ events-at k list i l) (eq-or-lt-of-le (le-of-suc-le-suc h))
 
 -- How many are accepted hangs on the answers before, and can be counted from the front.
 accepted-same : (rs qs : List ℕ) (i : ℕ) → ((k : ℕ) → k < i → byte rs k ≡ byte qs k) → accepted-of rs i ≡ accepted-of qs i
@@ -104,11 +97,6 @@ no-number a = sym (number-none [] a (omega arith))
 own-number : (xs more : List ℕ) (a : ℕ) → a < length xs → last-field (xs ++ more) a ≡ word (getD xs a 0)
 own-number xs more a h =
     sym (number-there (xs ++ more) a (omega (arith, length-append xs more)) (sym (List·getD-append xs more 0 a h)))
-
-length-stamps : (last : ℕ → ℕ → Clock) (cs : List Clocked) → length (stamps-after last cs) ≡ length cs
-unfolding stamps-after
-length-stamps last [] = refl
-length-stamps last (c ∷ cs) = ap suc (length-stamps (previous last c) cs)
 
 -- Clock slots: n for each event, and those of the event at a from n * a on.
 module _ (n : ℕ) where
@@ -175,9 +163,9 @@ module _ (n : ℕ) (few : n ≤ 32) (list : List ℕ) where
     words-there i h z =
         let f = found n es start i (omega (arith, length-events (how-many list) list)) z in
         same-words n i _ _ _ _
-        (f .same ∙ events-at (how-many list) list i h)
+        (f .same ∙ event-there list (nothing .event) (how-many list) i h)
         (rw timed (sym (clock-there n more-clocks cs long _ (f .there))))
-        (rw stamped (sym (mask-there more-masks (stamps cs) _ (omega (arith, f .there, length-stamps never-sent cs)))))
+        (rw stamped (sym (mask-there more-masks (stamps cs) _ (omega (arith, f .there, length-stamps cs never-sent)))))
 
     line-there : (i : ℕ) → i < how-many list → byte rs i ≡ 0 → let a = accepted-of rs i in
         event-line n i (getD cs a nothing) (getD (stamps cs) a no-stamp) ≡ slot-line n list clocks masks [] i a
@@ -204,7 +192,7 @@ module _ (n : ℕ) (few : n ≤ 32) (list : List ℕ) where
                   ap length stamped,
                   length-append (mask-slots (stamps cs)) more-masks,
                   length-map (stamps cs) (λ t. t .mask),
-                  length-stamps never-sent cs,
+                  length-stamps cs never-sent,
                   all-there,
                 );
           }
@@ -230,7 +218,7 @@ module _ (n : ℕ) (few : n ≤ 32) (list : List ℕ) where
             ∙ ap (λ (l : List ℕ). head-line (length cs) n (entries cs) ++ l) (lines-each line rest (length cs) h e))
 
       left : (i : ℕ) → i < length cs → drop i (stamps cs) ≡ getD (stamps cs) i no-stamp ∷ drop (suc i) (stamps cs)
-      left i h = drop-cons (stamps cs) i no-stamp (omega (arith, length-stamps never-sent cs))
+      left i h = drop-cons (stamps cs) i no-stamp (omega (arith, length-stamps cs never-sent))
 
       pub listing-is : listing-text n list clocks masks (entries cs) ≡ listing n list
       unfolding listing event-lines event-line slot-line

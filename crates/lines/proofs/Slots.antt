@@ -4,11 +4,11 @@ use mathlib.Core.Path.{_≡_, refl}
 use mathlib.Core.Bool.{Bool, true, false, cond}
 use mathlib.Core.List.{List, [], _∷_, _++_, append-assoc, flatMap}
 use native.Mathlib.Nat.{mul-suc, mul-le-mul-left}
-use native.Mathlib.Omega.{arith}
 use borrow.Author.Tests.{leb-true, le-leb, lt-ltb, le-ltb}
 use lib.Dec.{eqb}
 use lib.ListN.{length, getD, take, drop}
-use Rattle.paper.specs.Bytes.{byte, text}
+use Rattle.clock.specs.Event.{kind-at, process-at, peer-at, message-at}
+use Rattle.paper.specs.Bytes.{text}
 use Rattle.paper.specs.Event.{Event, event-at, how-many}
 use Rattle.paper.specs.Listing.{decimal, word, words, letter, event-words}
 use Rattle.paper.proofs.Laws.Tests.{and-both}
@@ -24,13 +24,11 @@ letter-is e = go (eqb (e .kind) 0) (eqb (e .kind) 1)
     go false false = refl
 
 pub fields-are :
-    (list : List ℕ) (i : ℕ) {kind process peer low high : ℕ}
-    → kind ≡ byte list (8 * i) → process ≡ byte list (8 * i + 1) → peer ≡ byte list (8 * i + 2) → low ≡ byte list (8 * i + 4) → high ≡ byte list (8 * i + 5)
-    → decimal i ++ text " " ++ (kind-letter kind ∷ []) ++ (word process ++ word peer ++ word (low + 256 * high)) ≡ event-fields i (event-at list (8 * i))
+    (list : List ℕ) (i : ℕ) {kind process peer message : ℕ}
+    → kind ≡ kind-at list i → process ≡ process-at list i → peer ≡ peer-at list i → message ≡ message-at list i
+    → decimal i ++ text " " ++ (kind-letter kind ∷ []) ++ (word process ++ word peer ++ word message) ≡ event-fields i (event-at list (8 * i))
 unfolding event-fields event-at
-fields-are list i k p q l h =
-    let five : 8 * i + 5 ≡ 8 * i + 4 + 1 = omega arith in
-    rw (k, p, q, l, h, five, letter-is (event-at list (8 * i))) (simp append-assoc)
+fields-are list i k p q m = rw (k, p, q, m, letter-is (event-at list (8 * i))) (simp append-assoc)
 
 pub words-are :
     (n : ℕ) (list clocks masks : List ℕ) (i a : ℕ) {mask many : ℕ} → mask ≡ getD masks a 0 → many ≡ n

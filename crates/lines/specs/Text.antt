@@ -1,14 +1,9 @@
 -- Text in a lent buffer. A store behind the end of a list is no store, so a text that is too long is cut.
-use Prim.Native.Nat.{ℕ, zero, suc, _+_, _≤_}
+use Prim.Native.Nat.{ℕ, zero, suc, _≤_}
 use mathlib.Core.Path.{_≡_}
 use mathlib.Core.List.{List, [], _++_}
 use lib.ListN.{length}
 use lib.Seq.{sets}
-
--- The list l with the bytes t stored from the place `at` on is m, and r is the place behind them.
-pub record Appended (l : List ℕ) (at : ℕ) (t : List ℕ) (r : ℕ) (m : List ℕ) : Type 0 where
-  pub place : r ≡ at + length t
-  pub bytes : m ≡ sets l at t
 
 -- What a public function leaves: the text t from the list's start on, and r its length. Half a million bytes hold every text.
 pub record Printed (l t : List ℕ) (r : ℕ) (m : List ℕ) : Type 0 where

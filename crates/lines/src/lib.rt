@@ -12,7 +12,13 @@ mod event;
 mod listing;
 mod marker;
 mod programs;
-mod text;
+
+use octets::store::put;
+use octets::store::put_all;
+use octets::text::digit;
+use octets::text::put_decimal;
+use octets::text::put_named;
+use octets::width::wide;
 
 // The listing of an accepted list, its clocks and masks standing in the slots lent.
 pub fn listing_text(
@@ -50,17 +56,17 @@ pub fn listing_lamport_text(
 pub fn refusal_text(r: clock::Refusal, out: &mut [u8]) -> usize
     ensures { λ k. ⌜ Printed (now (out .entry)) (refusal-line (refusal r)) k (now (out .exit)) ⌝ }
 {
-    let a = text::put_named(out, 0, b"refused", r.number as usize);
-    let b = text::put_named(out, a, b" at", r.position.0);
-    text::put(out, b, b'\n')
+    let a = put_named(out, 0, b"refused", wide(r.number));
+    let b = put_named(out, a, b" at", r.position.0);
+    put(out, b, b'\n')
 }
 
 // The verdict's number, on a line.
 pub fn verdict_text(v: clock::Verdict, out: &mut [u8]) -> usize
     ensures { λ r. ⌜ Printed (now (out .entry)) (verdict-line (number v)) r (now (out .exit)) ⌝ }
 {
-    let k = text::put_decimal(out, 0, v.number());
-    text::put(out, k, b'\n')
+    let k = put_decimal(out, 0, v.number());
+    put(out, k, b'\n')
 }
 
 // The chain's positions, the first `len` slots, on one line.
@@ -118,16 +124,16 @@ pub fn marker_text(marks: &[u8], total: usize, len: usize, out: &mut [u8]) -> us
 pub fn no_messages_text(out: &mut [u8]) -> usize
     ensures { λ r. ⌜ Printed (now (out .entry)) no-messages-line r (now (out .exit)) ⌝ }
 {
-    text::put_bytes(out, 0, b"no messages\n")
+    put_all(out, 0, b"no messages\n")
 }
 
 // The line of a percentage, which is told by its whole hundredths.
 pub fn saved_text(hundredths: usize, out: &mut [u8]) -> usize
     ensures { λ r. ⌜ Printed (now (out .entry)) (saved-line hundredths) r (now (out .exit)) ⌝ }
 {
-    let a = text::put_named(out, 0, b"saved", hundredths / 100);
-    let b = text::put(out, a, b'.');
-    let c = text::put(out, b, text::digit(hundredths / 10 % 10));
-    let d = text::put(out, c, text::digit(hundredths % 10));
-    text::put(out, d, b'\n')
+    let a = put_named(out, 0, b"saved", hundredths / 100);
+    let b = put(out, a, b'.');
+    let c = put(out, b, digit(hundredths / 10));
+    let d = put(out, c, digit(hundredths));
+    put(out, d, b'\n')
 }

@@ -4,10 +4,12 @@ ghost use mathlib.Core.Bool.{true};
 ghost use Prim.Native.Nat.{_+_, _≤_};
 ghost use Rattle.paper.specs.Event.{how-many};
 ghost use Rattle.paper.specs.Listing.{head-line};
-ghost use Rattle.lines.specs.Text.{Appended, Printed, each};
+ghost use Rattle.octets.specs.Appended.{Appended};
+ghost use Rattle.lines.specs.Text.{Printed, each};
 ghost use Rattle.lines.specs.Slots.{slot-line, fitting, numbered-text};
 use crate::event;
-use crate::text;
+use octets::store::put;
+use octets::text::put_named;
 
 pub(crate) fn fits(n: usize, list: &[u8], clocks: &[u16], masks: &[u32]) -> bool
     ensures { λ r. ⌜ r ≡ fitting n (now (list .entry)) (now (clocks .entry)) (now (masks .entry)) ⌝ }
@@ -25,10 +27,10 @@ pub(crate) fn fits(n: usize, list: &[u8], clocks: &[u16], masks: &[u32]) -> bool
 fn put_head(out: &mut [u8], m: usize, n: usize, carried: usize) -> usize
     ensures { λ r. ⌜ Appended (now (out .entry)) 0 (head-line m n carried) r (now (out .exit)) × (r ≤ 100) ⌝ }
 {
-    let a = text::put_named(out, 0, b"events", m);
-    let b = text::put_named(out, a, b" processes", n);
-    let c = text::put_named(out, b, b" entries", carried);
-    text::put(out, c, b'\n')
+    let a = put_named(out, 0, b"events", m);
+    let b = put_named(out, a, b" processes", n);
+    let c = put_named(out, b, b" entries", carried);
+    put(out, c, b'\n')
 }
 
 fn put_events(
@@ -40,7 +42,7 @@ fn put_events(
     masks: &[u32],
     numbers: &[u16],
 ) -> usize
-    requires { ⌜ (at ≤ 1000) × (fitting n (now list) (now clocks) (now masks) ≡ true) ⌝ }
+    requires { ⌜ fitting n (now list) (now clocks) (now masks) ≡ true ⌝ }
     ensures { λ r. ⌜ Appended (now (out .entry)) at (each (λ i. slot-line n (now (list .entry)) (now (clocks .entry)) (now (masks .entry)) (now (numbers .entry)) i i) (how-many (now (list .entry)))) r (now (out .exit)) × (r ≤ at + 409600) ⌝ }
 {
     let m = list.len() / 8;

@@ -2,15 +2,21 @@
 ghost use mathlib.Core.Path.{_≡_};
 ghost use mathlib.Core.Bool.{true, cond};
 ghost use mathlib.Core.List.{[]};
-ghost use Prim.Native.Nat.{_+_, _*_, _^_, _≤_};
+ghost use Prim.Native.Nat.{_+_, _*_, _≤_};
 ghost use lib.Dec.{eqb};
 ghost use lib.ListN.{length};
 ghost use Rattle.paper.specs.Event.{how-many};
-ghost use Rattle.lines.specs.Text.{Appended, each};
+ghost use Rattle.octets.specs.Appended.{Appended};
+ghost use Rattle.lines.specs.Text.{each};
 ghost use Rattle.lines.specs.Slots.{slot-line, fitting};
 ghost use Rattle.lines.specs.Programs.{chain-line, class-head, refused-line, offer-line};
 use crate::event;
-use crate::text;
+use octets::store::put;
+use octets::text::put_decimal;
+use octets::text::put_named;
+use octets::text::put_words;
+use octets::width::wide;
+use octets::width::wide16;
 
 pub(crate) fn put_chain(out: &mut [u8], positions: &[u16]) -> usize
     requires { ⌜ length (now positions) ≤ 512 ⌝ }
@@ -18,11 +24,11 @@ pub(crate) fn put_chain(out: &mut [u8], positions: &[u16]) -> usize
 {
     let len = positions.len();
     if len < 1 {
-        return text::put(out, 0, b'\n');
+        return put(out, 0, b'\n');
     }
-    let a = text::put_decimal(out, 0, text::wide(positions[0]));
-    let b = text::put_words(out, a, &positions[1..len]);
-    text::put(out, b, b'\n')
+    let a = put_decimal(out, 0, wide16(positions[0]));
+    let b = put_words(out, a, &positions[1..len]);
+    put(out, b, b'\n')
 }
 
 pub(crate) fn put_class_head(
@@ -34,20 +40,19 @@ pub(crate) fn put_class_head(
 ) -> usize
     ensures { λ r. ⌜ Appended (now (out .entry)) 0 (class-head m n accepted carried) r (now (out .exit)) × (r ≤ 200) ⌝ }
 {
-    let a = text::put_named(out, 0, b"offers", m);
-    let b = text::put_named(out, a, b" processes", n);
-    let c = text::put_named(out, b, b" accepted", accepted);
-    let d = text::put_named(out, c, b" entries", carried);
-    text::put(out, d, b'\n')
+    let a = put_named(out, 0, b"offers", m);
+    let b = put_named(out, a, b" processes", n);
+    let c = put_named(out, b, b" accepted", accepted);
+    let d = put_named(out, c, b" entries", carried);
+    put(out, d, b'\n')
 }
 
 fn put_refused(out: &mut [u8], at: usize, i: usize, answer: u8) -> usize
-    requires { ⌜ at + 800 ≤ 2 ^ 32 ⌝ }
     ensures { λ r. ⌜ Appended (now (out .entry)) at (refused-line i answer) r (now (out .exit)) × (r ≤ at + 800) ⌝ }
 {
-    let a = text::put_decimal(out, at, i);
-    let b = text::put_named(out, a, b" refused", event::wide(answer));
-    text::put(out, b, b'\n')
+    let a = put_decimal(out, at, i);
+    let b = put_named(out, a, b" refused", wide(answer));
+    put(out, b, b'\n')
 }
 
 // The offer at position i with its answer; a offers before it are accepted.
@@ -62,7 +67,7 @@ fn put_offer(
     masks: &[u32],
     a: usize,
 ) -> usize
-    requires { ⌜ (at + 800 ≤ 2 ^ 32) × (i ≤ 512) × (n ≤ 32) × (n * a + n ≤ length (now clocks)) ⌝ }
+    requires { ⌜ (n ≤ 32) × (n * a + n ≤ length (now clocks)) ⌝ }
     ensures { λ r. ⌜ Appended (now (out .entry)) at (cond (eqb answer 0) (slot-line n (now (list .entry)) (now (clocks .entry)) (now (masks .entry)) [] i a) (refused-line i answer)) r (now (out .exit)) × (r ≤ at + 800) ⌝ }
 {
     if answer == 0 {
@@ -90,7 +95,7 @@ pub(crate) fn put_offers(
     clocks: &[u16],
     masks: &[u32],
 ) -> usize
-    requires { ⌜ (at ≤ 1000) × (fitting n (now list) (now clocks) (now masks) ≡ true) × (how-many (now list) ≤ length (now answers)) ⌝ }
+    requires { ⌜ (fitting n (now list) (now clocks) (now masks) ≡ true) × (how-many (now list) ≤ length (now answers)) ⌝ }
     ensures { λ r. ⌜ Appended (now (out .entry)) at (each (offer-line n (now (list .entry)) (now (answers .entry)) (now (clocks .entry)) (now (masks .entry))) (how-many (now (list .entry)))) r (now (out .exit)) × (r ≤ at + 409600) ⌝ }
 {
     let m = list.len() / 8;

@@ -3,6 +3,7 @@ ghost use mathlib.Core.Path.{_≡_};
 ghost use Prim.Native.Nat.{_-_, _≤_, _<_};
 ghost use lib.ListN.{length};
 ghost use Rattle.number.specs.Digits.{is-digit, all-digits, value-behind};
+use octets::width::wide;
 
 fn is_digit(b: u8) -> bool
     ensures { λ r. ⌜ r ≡ is-digit b ⌝ }
@@ -13,7 +14,7 @@ fn is_digit(b: u8) -> bool
 fn digit(b: u8) -> usize
     ensures { λ r. ⌜ (r ≡ b - 48) × (r < 208) ⌝ }
 {
-    if 48 <= b { (b - 48) as usize } else { 0 }
+    if 48 <= b { wide(b - 48) } else { 0 }
 }
 
 pub(crate) fn all_digits(s: &[u8]) -> bool

@@ -11,7 +11,7 @@ use lib.Dec.{ltb}
 use lib.ListN.{length, getD, take, drop, set, length-append, take-append-drop}
 use lib.Seq.{sets, length-sets, length-take-le, take-suc, drop-length}
 use Rattle.paper.specs.Bytes.{two-bytes, four-bytes}
-use Rattle.octets.specs.Appended.{past, Appended}
+use Rattle.octets.specs.Appended.{Appended}
 use Rattle.octets.proofs.Places.{sets-out, sets-past}
 
 sets-more : (s t l : List ℕ) (i : ℕ) → sets (sets l i s) (i + length s) t ≡ sets l i (s ++ t)

@@ -1,45 +1,24 @@
 -- An accepted list: each of its events is the accepted event of that position, and its clock stands in its row of the slots.
 use Prim.Native.Nat.{ℕ, zero, suc, _+_, _-_, _*_, _≤_, _<_}
-use native.Mathlib.Nat.{mul-le-mul-left, eq-or-lt-of-le, le-of-suc-le-suc}
+use native.Mathlib.Nat.{mul-le-mul-left}
 use native.Mathlib.Omega.{arith}
-use mathlib.Core.Path.{_≡_, refl, sym, ap, _∙_}
-use mathlib.Core.Logic.{_⊎_, inl, inr}
-use mathlib.Core.List.{List, [], _∷_, _++_, map, flatMap}
+use mathlib.Core.Path.{_≡_, sym, ap, _∙_}
+use mathlib.Core.List.{List, [], _∷_, _++_, flatMap}
 use lib.ListN.{length, getD, take, drop, replicate, length-append, List·getD-append, List·getD-map}
-use lib.Seq.{length-take-le, getD-take, getD-append-add, getD-at}
-use borrow.Author.Tests.{eq-eqb}
+use lib.Seq.{length-take-le, getD-take, getD-append-add}
 use Rattle.paper.specs.Buffers.{laid, clock-slots}
 use Rattle.paper.specs.Clock.{part}
-use Rattle.paper.specs.Event.{Event, event-at, first-events, events-of, how-many}
-use Rattle.paper.specs.Machine.{State, Clocked, start, answer, offered, answers, clocked, event-clock}
+use Rattle.paper.specs.Event.{Event, event-at, events-of, how-many}
+use Rattle.paper.specs.Machine.{Clocked, start}
 use Rattle.paper.specs.Order.{nothing, event-of, clock-of}
 use Rattle.paper.proofs.ChainRoom.{process-below}
 use Rattle.paper.proofs.Laws.Runs.{clocked-all, length-events}
 use Rattle.paper.proofs.Lent.Stamps.{slots-fit}
 use Rattle.paper.proofs.Sheets.Layout.{Given}
 use Rattle.paper.proofs.Sizes.{sized}
+use Rattle.clock.proofs.Events.{event-there, all-accepted}
 use Rattle.course.specs.Said.{of-list}
 use Rattle.order.specs.Stands.{Stands}
-
--- Where every answer is 0, the accepted events are those offered.
-same-events : (n : ℕ) (os : List Event) (s : State) → answers n s os ≡ replicate (length os) 0 → map (λ (c : Clocked). c .event) (clocked n s os) ≡ os
-unfolding clocked answers
-same-events n [] s h = refl
-same-events n (e ∷ os) s h =
-    let z : answer n s e ≡ 0 = cc in
-    let r : answers n (offered n s e) os ≡ replicate (length os) 0 = cc in
-    rw (eq-eqb (answer n s e) 0 z) (ap (λ (l : List Event). e ∷ l) (same-events n os (offered n s e) r))
-
-event-there : (m : ℕ) (list : List ℕ) (d : Event) (a : ℕ) → a < m → getD (first-events m list) a d ≡ event-at list (8 * a)
-unfolding first-events
-event-there zero list d a h = absurd (omega arith)
-event-there (suc m) list d a h = go (eq-or-lt-of-le (le-of-suc-le-suc h)) (event-there m list d a)
-  where
-    go :
-        (a ≡ m) ⊎ (a < m) → (a < m → getD (first-events m list) a d ≡ event-at list (8 * a))
-        → getD (first-events m list ++ (event-at list (8 * m) ∷ [])) a d ≡ event-at list (8 * a)
-    go (inl e) f = rw e (getD-at (first-events m list) (event-at list (8 * m)) [] d m (length-events m list))
-    go (inr l) f = List·getD-append (first-events m list) _ d a (omega (arith, length-events m list)) ∙ f l
 
 slot-there :
     (n : ℕ) (cs : List Clocked) → ((a : ℕ) → a < length cs → n ≤ length (clock-of cs a)) → (a k : ℕ) → a < length cs → k < n
@@ -75,7 +54,7 @@ module _ (n : ℕ) (list old clocks : List ℕ) (given : Given n list) (long : n
       let fit = slots-fit n small os (omega (arith, length-events m list)) in
       let event : (a : ℕ) → a < m → event-of cs a ≡ event-at list (8 * a) =
       λ a h. sym (List·getD-map (λ (c : Clocked). c .event) cs a nothing)
-      ∙ ap (λ (l : List Event). getD l a (nothing .event)) (same-events n os start (given .accepted)) ∙ event-there m list (nothing .event) a h in
+      ∙ ap (λ (l : List Event). getD l a (nothing .event)) (all-accepted n os start (given .accepted)) ∙ event-there list (nothing .event) m a h in
       record {
         some = given .processes .0;
         few = small;

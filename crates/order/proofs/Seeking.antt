@@ -1,5 +1,5 @@
 -- The search for a send by its number: it does not pass the send that is there.
-use Prim.Native.Nat.{ℕ, _+_, _*_, _≤_, _<_}
+use Prim.Native.Nat.{ℕ, _+_, _≤_, _<_}
 use native.Mathlib.Nat.{eq-or-lt-of-le}
 use native.Mathlib.Omega.{arith}
 use mathlib.Core.Path.{_≡_, sym, ap, _∙_}
@@ -7,7 +7,6 @@ use mathlib.Core.Logic.{_⊎_, inl, inr}
 use mathlib.Core.Bool.{Bool, true, false, not, false≢true}
 use mathlib.Core.List.{List}
 use lib.Dec.{eqb}
-use lib.ListN.{length}
 use borrow.Author.Tests.{eqb-true, eq-eqb, not-true, not-false}
 use Rattle.clock.specs.Event.{kind-at, message-at}
 use Rattle.paper.specs.Event.{send}

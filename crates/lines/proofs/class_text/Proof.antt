@@ -2,7 +2,8 @@ use mathlib.Core.Path.{_∙_, sym}
 use native.Mathlib.Omega.{arith}
 use borrow.Author.Tests.{not-true, not-false, le-leb, lt-leb}
 use Rattle.lines.specs.Programs.{class-text}
-use Rattle.lines.proofs.Laws.{join, printed, unprinted}
+use Rattle.octets.proofs.Appended.{join}
+use Rattle.lines.proofs.Laws.{printed, unprinted}
 use borrow.Author.Needs.{needs}
 use Rattle.lines.proofs.class_text.Statement.{statement}
 use Rattle.lines.proofs.class_text.Tie as tie
@@ -16,7 +17,7 @@ unfolding class-text
 returns-2 c = simp (sym (c .before .before .fits2 .ensures) ∙ not-false _ (c .before .if1 .left), lt-leb _ _ (c .if2 .taken)) (unprinted _)
 
 put-offers-requires : tie.Need-put-offers-requires
-put-offers-requires c κs = (omega (arith, c .before .before .before .put-class-head .ensures .1), sym (c .before .before .before .before .before .before .before .fits2 .ensures) ∙ not-false _ (c .before .before .before .before .before .before .if1 .left), c .before .before .before .before .before .if2 .left)
+put-offers-requires c κs = (sym (c .before .before .before .before .before .before .before .fits2 .ensures) ∙ not-false _ (c .before .before .before .before .before .before .if1 .left), c .before .before .before .before .before .if2 .left)
 
 returns-3 : tie.Need-returns-3
 unfolding class-text

@@ -1,7 +1,8 @@
 use native.Mathlib.Omega.{arith}
 use borrow.Author.Tests.{le-leb, lt-leb}
 use Rattle.lines.specs.Marker.{marker-text}
-use Rattle.lines.proofs.Laws.{join, printed, unprinted}
+use Rattle.octets.proofs.Appended.{join}
+use Rattle.lines.proofs.Laws.{printed, unprinted}
 use borrow.Author.Needs.{needs}
 use Rattle.lines.proofs.marker_text.Statement.{statement}
 use Rattle.lines.proofs.marker_text.Tie as tie
@@ -14,9 +15,6 @@ returns-2 : tie.Need-returns-2
 unfolding marker-text
 returns-2 c = simp (le-leb _ _ (c .before .if1 .left), lt-leb _ _ (c .if2 .taken)) (unprinted _)
 
-put-total-requires : tie.Need-put-total-requires
-put-total-requires c κs = omega (arith, c .before .before .before .put-marks .ensures .1)
-
 returns-3 : tie.Need-returns-3
 unfolding marker-text
 returns-3 c = let a = c .before .before .before .before .before .before .put-marks .ensures in
@@ -26,4 +24,4 @@ returns-3 c = let a = c .before .before .before .before .before .before .put-mar
 pub marker-text-spec : {M : Type 1} → statement M
 marker-text-spec =
     tie.close
-    (tie.spec returns returns-2 (λ c κs. search needs) put-total-requires (λ c. search needs) returns-3)
+    (tie.spec returns returns-2 (λ c κs. search needs) (λ c κs. search needs) (λ c. search needs) returns-3)

@@ -8,7 +8,7 @@ use Rattle.lines.proofs.no_messages_text.Tie as tie
 
 returns : tie.Need-returns
 unfolding no-messages-line text
-returns c = let a = c .before .before .put-bytes .ensures in printed a (omega (arith, a .place))
+returns c = let a = c .before .before .put-all .ensures in printed a (omega (arith, a .place))
 
 pub no-messages-text-spec : {M : Type 1} → statement M
 no-messages-text-spec =

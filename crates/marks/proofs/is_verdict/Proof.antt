@@ -1,3 +1,4 @@
+-- Two rows are two clocks that can be compared.
 use mathlib.Core.Path.{ap, sym, _∙_}
 use lib.Dec.{eqb}
 use Rattle.clock.specs.Said.{ordered}

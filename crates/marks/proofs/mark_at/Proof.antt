@@ -1,3 +1,4 @@
+-- A line on events that are there is judged by their rows, any other has no mark.
 use native.Mathlib.Omega.{arith}
 use denote.Ref.{now}
 use mathlib.Core.Bool.{true, false}

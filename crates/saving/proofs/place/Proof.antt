@@ -1,3 +1,4 @@
+-- 21 where there is no slot, and otherwise the saving in its slot.
 use denote.Ref.{now}
 use native.Mathlib.Omega.{arith}
 use Rattle.course.specs.Said.{work}

@@ -1,3 +1,4 @@
+-- Byte 0 of the record.
 use native.Mathlib.Nat.{add-zero}
 use borrow.Author.Needs.{needs}
 use Rattle.clock.proofs.event.kind_at.Statement.{statement}

@@ -1,3 +1,4 @@
+-- Where no record begins both bytes are behind the end.
 use mathlib.Core.Path.{sym}
 use native.Mathlib.Omega.{arith}
 use Rattle.octets.proofs.Places.{two-out}

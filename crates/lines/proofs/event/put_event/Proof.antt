@@ -1,7 +1,7 @@
 use native.Mathlib.Omega.{arith}
 use Rattle.paper.specs.Bytes.{text}
 use Rattle.lines.specs.Slots.{slot-line}
-use Rattle.lines.proofs.Laws.{join}
+use Rattle.octets.proofs.Appended.{join}
 use borrow.Author.Needs.{needs}
 use Rattle.lines.proofs.event.put_event.Statement.{statement}
 use Rattle.lines.proofs.event.put_event.Tie as tie

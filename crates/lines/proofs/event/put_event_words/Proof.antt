@@ -1,7 +1,7 @@
 use Prim.Native.Nat.{_+_, _-_, _*_}
 use mathlib.Core.Path.{_≡_}
 use native.Mathlib.Omega.{arith}
-use Rattle.lines.proofs.Laws.{join, same}
+use Rattle.octets.proofs.Appended.{join, same}
 use Rattle.lines.proofs.Slots.{words-are}
 use borrow.Author.Needs.{needs}
 use Rattle.lines.proofs.event.put_event_words.Statement.{statement}

@@ -1,6 +1,6 @@
 use native.Mathlib.Omega.{arith}
 use Rattle.paper.specs.Bytes.{text}
-use Rattle.lines.proofs.Laws.{join}
+use Rattle.octets.proofs.Appended.{join}
 use borrow.Author.Needs.{needs}
 use Rattle.lines.proofs.event.put_kind.Statement.{statement}
 use Rattle.lines.proofs.event.put_kind.Tie as tie

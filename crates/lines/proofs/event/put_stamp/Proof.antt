@@ -1,5 +1,5 @@
 use native.Mathlib.Omega.{arith}
-use Rattle.lines.proofs.Laws.{join}
+use Rattle.octets.proofs.Appended.{join}
 use borrow.Author.Needs.{needs}
 use Rattle.lines.proofs.event.put_stamp.Statement.{statement}
 use Rattle.lines.proofs.event.put_stamp.Tie as tie

@@ -2,7 +2,8 @@ use mathlib.Core.Path.{_∙_, sym}
 use native.Mathlib.Omega.{arith}
 use borrow.Author.Tests.{not-true, not-false}
 use Rattle.lines.specs.Slots.{numbered-text}
-use Rattle.lines.proofs.Laws.{join, printed, unprinted}
+use Rattle.octets.proofs.Appended.{join}
+use Rattle.lines.proofs.Laws.{printed, unprinted}
 use borrow.Author.Needs.{needs}
 use Rattle.lines.proofs.listing.put_listing.Statement.{statement}
 use Rattle.lines.proofs.listing.put_listing.Tie as tie
@@ -12,7 +13,7 @@ unfolding numbered-text
 returns c = rw (sym (c .before .fits2 .ensures) ∙ not-true _ (c .if1 .taken)) (unprinted _)
 
 put-events-requires : tie.Need-put-events-requires
-put-events-requires c κs = (omega (arith, c .before .before .before .put-head .ensures .1), sym (c .before .before .before .before .before .before .fits2 .ensures) ∙ not-false _ (c .before .before .before .before .before .if1 .left))
+put-events-requires c κs = sym (c .before .before .before .before .before .before .fits2 .ensures) ∙ not-false _ (c .before .before .before .before .before .if1 .left)
 
 returns-2 : tie.Need-returns-2
 unfolding numbered-text

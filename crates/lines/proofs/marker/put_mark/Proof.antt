@@ -1,7 +1,7 @@
 use native.Mathlib.Omega.{arith}
 use Rattle.paper.specs.Bytes.{text}
 use Rattle.lines.specs.Marker.{mark-line}
-use Rattle.lines.proofs.Laws.{join}
+use Rattle.octets.proofs.Appended.{join}
 use borrow.Author.Needs.{needs}
 use Rattle.lines.proofs.marker.put_mark.Statement.{statement}
 use Rattle.lines.proofs.marker.put_mark.Tie as tie

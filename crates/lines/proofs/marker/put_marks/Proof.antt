@@ -2,7 +2,8 @@ use borrow.Author.Needs.{needs}
 use native.Mathlib.Omega.{arith}
 use Prim.Native.Nat.{_≤_, _-_}
 use Rattle.lines.specs.Marker.{mark-line}
-use Rattle.lines.proofs.Laws.{Lined, lined-none, lined-more, lined-all, long}
+use Rattle.octets.proofs.Appended.{long}
+use Rattle.lines.proofs.Laws.{Lined, lined-none, lined-more, lined-all}
 use Rattle.lines.proofs.marker.put_marks.Statement.{statement}
 use Rattle.lines.proofs.marker.put_marks.Tie as tie
 
@@ -13,12 +14,10 @@ abbrev μ-loop : tie.MeasureT-loop
 μ-loop out₀ marks len k₀ j₀ out k j = len - j
 
 loop-holds : tie.Need-loop-holds Inv-loop μ-loop
-loop-holds c = (omega arith, lined-none _ _ _)
+loop-holds c = (omega arith, lined-none _ _ _ (omega arith) (omega arith))
 
 put-mark-requires : tie.Need-put-mark-requires Inv-loop μ-loop
-put-mark-requires c κs = let l = c .before .before .loop .inv in
-    let s = c .before .before .before .before .before .pre in
-    (omega (arith, l .1 .short, s .0, c .before .loop-test .taken), omega (arith, s .1, c .before .loop-test .taken))
+put-mark-requires c κs = omega (arith, c .before .before .before .before .before .pre .1, c .before .loop-test .taken)
 
 loop-again : tie.Need-loop-again Inv-loop μ-loop
 loop-again c = let p = c .before .before .put-mark .ensures in

@@ -1,7 +1,7 @@
 use native.Mathlib.Omega.{arith}
 use Rattle.paper.specs.Bytes.{text}
 use Rattle.lines.specs.Marker.{total-line}
-use Rattle.lines.proofs.Laws.{join, join-two}
+use Rattle.octets.proofs.Appended.{join, join-two}
 use borrow.Author.Needs.{needs}
 use Rattle.lines.proofs.marker.put_total.Statement.{statement}
 use Rattle.lines.proofs.marker.put_total.Tie as tie

@@ -1,6 +1,6 @@
 use native.Mathlib.Omega.{arith}
 use Rattle.paper.specs.Bytes.{text}
-use Rattle.lines.proofs.Laws.{join, same}
+use Rattle.octets.proofs.Appended.{join, same}
 use Rattle.lines.proofs.Others.{chain-none, chain-is}
 use borrow.Author.Needs.{needs}
 use Rattle.lines.proofs.programs.put_chain.Statement.{statement}
@@ -16,7 +16,7 @@ returns-2 c =
     let a = c .before .before .before .before .before .before .before .before .before .before .before .put-decimal .ensures in
     let b = c .before .before .before .before .before .before .put-words .ensures in
     let d = c .before .before .put2 .ensures in
-    (same (chain-is _ (c .before .before .before .before .before .before .before .before .before .before .before .before .wide .ensures) (c .before .before .before .before .before .before .before .before .before .before .before .before .before .before .before .if1 .left)) (join (join (a .0) (b .0)) d), omega (arith, a .1, b .1, d .place))
+    (same (chain-is _ (c .before .before .before .before .before .before .before .before .before .before .before .before .wide16 .ensures .0) (c .before .before .before .before .before .before .before .before .before .before .before .before .before .before .before .if1 .left)) (join (join (a .0) (b .0)) d), omega (arith, a .1, b .1, d .place))
 
 pub put-chain-spec : {M : Type 1} → statement M
 put-chain-spec =

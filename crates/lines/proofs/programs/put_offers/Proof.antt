@@ -5,7 +5,8 @@ use native.Mathlib.Numerals.{add-one}
 use native.Mathlib.Omega.{arith}
 use Rattle.paper.specs.Event.{how-many}
 use Rattle.lines.specs.Programs.{accepted-of, offer-line}
-use Rattle.lines.proofs.Laws.{Lined, lined-none, lined-more, lined-all, long}
+use Rattle.octets.proofs.Appended.{long}
+use Rattle.lines.proofs.Laws.{Lined, lined-none, lined-more, lined-all}
 use Rattle.lines.proofs.Others.{accepted-few}
 use Rattle.lines.proofs.Slots.{Fitting, fits, slots-end}
 use Rattle.lines.proofs.programs.put_offers.Statement.{statement}
@@ -19,15 +20,15 @@ abbrev μ-loop : tie.MeasureT-loop
 
 loop-holds : tie.Need-loop-holds Inv-loop μ-loop
 unfolding accepted-of
-loop-holds c = (omega arith, refl, lined-none _ _ _)
+loop-holds c = (omega arith, refl, lined-none _ _ _ (omega arith) (omega arith))
 
 put-offer-requires : tie.Need-put-offer-requires Inv-loop μ-loop
 put-offer-requires c κs = let s = c .before .before .before .before .before .before .before .before .before .args in
     let l = c .before .before .before .loop in
-    let f : Fitting (s .n) (s .list .now) (s .clocks .now) (s .masks .now) = fits _ _ _ _ (c .before .before .before .before .before .before .before .before .before .pre .1) in
+    let f : Fitting (s .n) (s .list .now) (s .clocks .now) (s .masks .now) = fits _ _ _ _ (c .before .before .before .before .before .before .before .before .before .pre .0) in
     let few : l .a < how-many (s .list .now) = omega (arith, accepted-few (s .answers .now) (l .i), l .inv .1, c .before .before .loop-test .taken) in
     let end = slots-end (s .n) (l .a) _ few in
-    (omega (arith, l .inv .2 .short, f .short, c .before .before .before .before .before .before .before .before .before .pre .0), omega (arith, f .short), f .few, omega (arith, f .clocked))
+    (f .few, omega (arith, f .clocked))
 
 add-a : tie.Need-add-a Inv-loop μ-loop
 add-a c = let l = c .before .before .before .before .before .before .before .loop in
@@ -45,7 +46,7 @@ same-length c = long (c .before .loop .inv .2 .is)
 returns : tie.Need-returns Inv-loop μ-loop
 returns c =
     let i = c .before .loop .inv in
-    let f = fits _ _ _ _ (c .before .before .before .before .before .before .before .pre .1) in
+    let f = fits _ _ _ _ (c .before .before .before .before .before .before .before .pre .0) in
     (lined-all _ _ (i .2) (i .0) (c .loop-test .left), omega (arith, i .2 .short, i .0, f .short))
 
 pub put-offers-spec : {M : Type 1} → statement M

@@ -1,3 +1,4 @@
+-- Behind the end the byte is 0.
 use mathlib.Core.Path.{sym}
 use native.Mathlib.Omega.{arith}
 use lib.ListN.{List·getD-eq-default}

@@ -1,3 +1,4 @@
+-- The upper two bytes are read two places behind, as far as there is such a place.
 use mathlib.Core.Path.{ap, _∙_}
 use native.Mathlib.Omega.{arith}
 use Rattle.paper.specs.Bytes.{two}

@@ -1,3 +1,4 @@
+-- The second byte is read at the place behind, which is one more, or behind the end as one more is.
 use mathlib.Core.Path.{ap, _∙_}
 use native.Mathlib.Omega.{arith}
 use Rattle.paper.specs.Bytes.{byte}

@@ -1,3 +1,4 @@
+-- A store behind the end changes nothing, as the `set` of a list does.
 use mathlib.Core.Path.{_≡_, sym, ap, _∙_}
 use mathlib.Core.Logic.{⊎-elim}
 use native.Mathlib.Omega.{arith}

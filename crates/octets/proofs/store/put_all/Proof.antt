@@ -1,8 +1,8 @@
+-- The first i bytes are stored; what the slice has no room for would not be stored anyway.
 use borrow.Author.Needs.{needs}
 use Prim.Native.Nat.{_≤_, _-_}
 use mathlib.Core.Path.{_≡_, refl, ap, _∙_}
 use native.Mathlib.Omega.{arith}
-use native.Mathlib.Numerals.{add-one}
 use lib.ListN.{length, take}
 use lib.Seq.{sets, length-sets}
 use Rattle.octets.proofs.Appended.{sets-cut, one-more}

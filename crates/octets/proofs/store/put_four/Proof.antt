@@ -1,3 +1,4 @@
+-- The lower two bytes, and behind them the upper two.
 use Rattle.octets.proofs.Appended.{stored-four}
 use borrow.Author.Needs.{needs}
 use Rattle.octets.proofs.store.put_four.Statement.{statement}

@@ -1,3 +1,4 @@
+-- The lower byte, and behind it the upper one.
 use Rattle.paper.specs.Bytes.{two-bytes}
 use Rattle.octets.proofs.Appended.{join}
 use borrow.Author.Needs.{needs}

@@ -1,3 +1,4 @@
+-- All digits but the last, and behind them the last; the number falls with each turn.
 use Prim.Native.Nat.{ℕ, _<_}
 use mathlib.Core.Path.{_∙_}
 use native.Mathlib.Omega.{arith}

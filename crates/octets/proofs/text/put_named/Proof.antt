@@ -1,3 +1,4 @@
+-- The name, and behind it the number.
 use native.Mathlib.Omega.{arith}
 use Rattle.octets.proofs.Appended.{join}
 use borrow.Author.Needs.{needs}

@@ -1,3 +1,4 @@
+-- A blank, and behind it the digits.
 use native.Mathlib.Omega.{arith}
 use Rattle.paper.specs.Bytes.{text}
 use Rattle.paper.specs.Listing.{word}

@@ -1,3 +1,4 @@
+-- The first i numbers are stored, each in at most 21 bytes.
 use borrow.Author.Needs.{needs}
 use Prim.Native.Nat.{_-_}
 use native.Mathlib.Omega.{arith}

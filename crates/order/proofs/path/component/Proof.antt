@@ -1,3 +1,4 @@
+-- The process's number is the same as an index.
 use mathlib.Core.Path.{ap}
 use native.Mathlib.Omega.{arith}
 use Prim.Native.Nat.{ℕ, _+_, _*_}

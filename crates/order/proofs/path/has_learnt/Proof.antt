@@ -1,3 +1,4 @@
+-- Both sides of the test are what the accessors read.
 use borrow.Author.Needs.{needs}
 use Rattle.order.proofs.path.has_learnt.Statement.{statement}
 use Rattle.order.proofs.path.has_learnt.Tie as tie

@@ -1,3 +1,4 @@
+-- Both sides of the test are what the accessors read.
 use borrow.Author.Needs.{needs}
 use Rattle.order.proofs.path.is_send_of.Statement.{statement}
 use Rattle.order.proofs.path.is_send_of.Tie as tie

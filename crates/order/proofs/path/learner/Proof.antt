@@ -1,3 +1,4 @@
+-- The scan does not pass the learner, and stops there.
 use borrow.Author.Needs.{needs}
 use Prim.Native.Nat.{_+_, _*_, _-_, _≤_, _<_}
 use mathlib.Core.Path.{_≡_}

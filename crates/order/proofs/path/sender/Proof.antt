@@ -1,3 +1,4 @@
+-- The scan does not pass the send that is sought, and stops there.
 use borrow.Author.Needs.{needs}
 use Prim.Native.Nat.{_-_}
 use native.Mathlib.Omega.{arith}

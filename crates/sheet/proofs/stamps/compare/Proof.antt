@@ -1,3 +1,4 @@
+-- Each event's piece is found where the pieces before it end.
 use Prim.Native.Nat.{_-_}
 use mathlib.Core.Path.{_≡_, _∙_}
 use native.Mathlib.Omega.{arith}

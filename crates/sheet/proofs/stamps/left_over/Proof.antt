@@ -1,3 +1,4 @@
+-- 19 exactly where a byte is left.
 use borrow.Author.Needs.{needs}
 use borrow.Author.Tests.{lt-ltb, le-ltb}
 use Rattle.sheet.proofs.stamps.left_over.Statement.{statement}

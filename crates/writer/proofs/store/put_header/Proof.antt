@@ -1,3 +1,4 @@
+-- The start, and behind it where the parts lie.
 use Rattle.paper.specs.Bytes.{two-bytes, four-bytes, text}
 use Rattle.paper.specs.Sheet.{header}
 use Rattle.octets.proofs.Appended.{join}

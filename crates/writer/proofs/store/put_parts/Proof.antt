@@ -1,3 +1,4 @@
+-- Four numbers, one behind the other.
 use Rattle.octets.proofs.Appended.{join}
 use borrow.Author.Needs.{needs}
 use Rattle.writer.proofs.store.put_parts.Statement.{statement}

@@ -1,3 +1,4 @@
+-- A send has a stamp, any other event nothing.
 use native.Mathlib.Omega.{arith}
 use borrow.Author.Tests.{eq-eqb, ne-eqb}
 use Rattle.octets.proofs.Appended.{none}

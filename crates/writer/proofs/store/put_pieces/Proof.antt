@@ -1,3 +1,4 @@
+-- What is stored from here on completes the stamps.
 use borrow.Author.Needs.{needs}
 use Prim.Native.Nat.{_-_}
 use native.Mathlib.Omega.{arith}

@@ -1,3 +1,4 @@
+-- The header, the events and the stamps, one behind the other.
 use mathlib.Core.Path.{sym, _∙_}
 use Rattle.octets.proofs.Appended.{join}
 use Rattle.writer.proofs.Sizes.{size-is}

@@ -1,3 +1,4 @@
+-- The mask, and behind it as many values as it has ones.
 use Rattle.writer.proofs.Stored.{stored-stamp}
 use borrow.Author.Needs.{needs}
 use Rattle.writer.proofs.store.put_stamp.Statement.{statement}

@@ -1,3 +1,4 @@
+-- Four pieces, one behind the other.
 use Rattle.paper.specs.Bytes.{text}
 use Rattle.octets.proofs.Appended.{join}
 use borrow.Author.Needs.{needs}

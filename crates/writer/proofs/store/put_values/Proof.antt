@@ -1,3 +1,4 @@
+-- The first j values are stored.
 use borrow.Author.Needs.{needs}
 use Prim.Native.Nat.{_≤_, _-_}
 use mathlib.Core.List.{flatMap}

@@ -1,3 +1,4 @@
+-- What is counted and what is left to count are the whole size.
 use borrow.Author.Needs.{needs}
 use Prim.Native.Nat.{_≤_, _-_, _+_, _*_}
 use mathlib.Core.Path.{_≡_}
