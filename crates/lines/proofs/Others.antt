@@ -9,7 +9,7 @@ use lib.ListN.{length, getD, take, drop}
 use lib.Seq.{take-length}
 use Rattle.paper.specs.Bytes.{byte, text}
 use Rattle.paper.specs.Listing.{decimal, words}
-use Rattle.lines.specs.Programs.{chain-line, accepted-of}
+use Rattle.lines.specs.Programs.{chain-line, accepted-before}
 
 pub chain-none : (xs : List ℕ) → length xs < 1 → text "\n" ≡ chain-line xs
 unfolding chain-line
@@ -24,11 +24,11 @@ chain-is (y ∷ ys) e h =
     let many : suc (length ys) - 1 ≡ length ys = omega arith in
     rw (e, many, take-length ys)
 
-pub accepted-few : (answers : List ℕ) (k : ℕ) → accepted-of answers k ≤ k
-unfolding accepted-of
+pub accepted-few : (answers : List ℕ) (k : ℕ) → accepted-before answers k ≤ k
+unfolding accepted-before
 accepted-few answers zero = omega arith
 accepted-few answers (suc k) = go (eqb (byte answers k) 0) (accepted-few answers k)
   where
-    go : (b : Bool) → accepted-of answers k ≤ k → accepted-of answers k + cond b 1 0 ≤ suc k
+    go : (b : Bool) → accepted-before answers k ≤ k → accepted-before answers k + cond b 1 0 ≤ suc k
     go true h = omega arith
     go false h = omega arith

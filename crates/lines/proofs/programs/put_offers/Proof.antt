@@ -4,7 +4,7 @@ use mathlib.Core.Path.{_≡_, refl}
 use native.Mathlib.Numerals.{add-one}
 use native.Mathlib.Omega.{arith}
 use Rattle.paper.specs.Event.{how-many}
-use Rattle.lines.specs.Programs.{accepted-of, offer-line}
+use Rattle.lines.specs.Programs.{accepted-before, offer-line}
 use Rattle.octets.proofs.Appended.{long}
 use Rattle.lines.proofs.Laws.{Lined, lined-none, lined-more, lined-all}
 use Rattle.lines.proofs.Others.{accepted-few}
@@ -13,13 +13,13 @@ use Rattle.lines.proofs.programs.put_offers.Statement.{statement}
 use Rattle.lines.proofs.programs.put_offers.Tie as tie
 
 abbrev Inv-loop : tie.InvT-loop
-Inv-loop out₀ at n list answers clocks masks m k₀ a₀ i₀ out k a i = (i ≤ m) × (a ≡ accepted-of answers i) × Lined (offer-line n list answers clocks masks) out₀ at k i out
+Inv-loop out₀ at n list answers clocks masks m k₀ a₀ i₀ out k a i = (i ≤ m) × (a ≡ accepted-before answers i) × Lined (offer-line n list answers clocks masks) out₀ at k i out
 
 abbrev μ-loop : tie.MeasureT-loop
 μ-loop out₀ at n list answers clocks masks m k₀ a₀ i₀ out k a i = m - i
 
 loop-holds : tie.Need-loop-holds Inv-loop μ-loop
-unfolding accepted-of
+unfolding accepted-before
 loop-holds c = (omega arith, refl, lined-none _ _ _ (omega arith) (omega arith))
 
 put-offer-requires : tie.Need-put-offer-requires Inv-loop μ-loop
@@ -35,7 +35,7 @@ add-a c = let l = c .before .before .before .before .before .before .before .loo
     omega (arith, accepted-few (c .before .before .before .before .before .before .before .before .before .before .before .before .before .args .answers .now) (l .i), l .inv .1)
 
 loop-again : tie.Need-loop-again Inv-loop μ-loop
-unfolding accepted-of offer-line
+unfolding accepted-before offer-line
 loop-again c = let i = c .before .before .before .before .before .before .before .loop .inv in
     let p = c .before .before .before .put-offer .ensures in
     (omega arith, rw (add-one, i .1, c .accepted .ensures .0), lined-more _ (i .2) (rw (i .1) at (p .0)) (p .1))
