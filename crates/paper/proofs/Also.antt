@@ -22,6 +22,38 @@ call-done {A} c a x t list w w′ h =
     let (early, late) = placed c .0 z in
     ((early, late), same, ap (λ (p : Outcome A × Work). p .1) h ∙ after-done c _ _ w early late)
 
+-- What a lent thing is after one more check, by what the others gave.
+module _ {A : Type 0} (c : Checks) (k : Refusal) (left cleared old : A) where
+  pub also-kept : (left₁ : A) → refusal-of c .number ≢ 0 → after (c also k) left cleared old ≡ after c left₁ cleared old
+  also-kept left₁ h = go (ℕ-discrete (c .early) 0)
+    where
+      go : Dec (c .early ≡ 0) → after (c also k) left cleared old ≡ after c left₁ cleared old
+      go (yes e) =
+          let l : c .late .number ≢ 0 = λ q. h (ap (λ (r : Refusal). r .number) (refusal-late c e) ∙ q) in
+          rw (eq-eqb (c .early) 0 e, ne-eqb (c .late .number) 0 l, ne-eqb (c .late .number) 0 l)
+      go (no e) = rw (ne-eqb (c .early) 0 e)
+
+  module _ (early : c .early ≡ 0) (late : c .late .number ≡ 0) where
+    pub also-cleared : k .number ≢ 0 → after (c also k) left cleared old ≡ cleared
+    also-cleared h = rw (eq-eqb (c .early) 0 early, eq-eqb (c .late .number) 0 late, ne-eqb (k .number) 0 h)
+
+    pub also-left : k .number ≡ 0 → after (c also k) left cleared old ≡ left
+    also-left h = rw (eq-eqb (c .early) 0 early, eq-eqb (c .late .number) 0 late, eq-eqb (k .number) 0 h)
+
+-- What refuses.
+module _ (c : Checks) (k : Refusal) where
+  pub also-first : refusal-of c .number ≢ 0 → refusal-of (c also k) ≡ refusal-of c
+  also-first h = go (ℕ-discrete (c .early) 0)
+    where
+      go : Dec (c .early ≡ 0) → refusal-of (c also k) ≡ refusal-of c
+      go (yes e) =
+          let l : c .late .number ≢ 0 = λ q. h (ap (λ (r : Refusal). r .number) (refusal-late c e) ∙ q) in
+          rw (eq-eqb (c .early) 0 e, ne-eqb (c .late .number) 0 l)
+      go (no e) = rw (ne-eqb (c .early) 0 e)
+
+  pub also-last : c .early ≡ 0 → c .late .number ≡ 0 → refusal-of (c also k) ≡ k
+  also-last early late = rw (eq-eqb (c .early) 0 early, eq-eqb (c .late .number) 0 late)
+
 module _ {A B C : Type 0} (c : Checks) (k : Refusal) (a : A) (b : B) (t : Terms) (list : List ℕ) (w : Work) (left out : C) where
   -- What a call leaves that also writes an output, `left` where nothing refuses.
   abbrev Ends : Type 0

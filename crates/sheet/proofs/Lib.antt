@@ -2,5 +2,4 @@ pub mod Checks
 pub mod Compared
 pub mod Filled
 pub mod InOrder
-pub mod WithNumbers
 pub mod Slots

@@ -37,11 +37,11 @@ wrong-stamps len p q = outside len (q .offset) (q .size) || shared (p .offset) (
 abbrev pub in-turn : Bool → Bool → Bool → Bool → Bool → Bool → Bool → ℕ → ℕ
 in-turn b1 b2 b3 b4 b5 b6 b7 k = first b1 1 (first b2 2 (first b3 3 (first b4 4 (first b5 5 (first b6 6 (first b7 7 k))))))
 
--- Where the two parts of a sheet lie, and its process count.
+-- The terms of a sheet, and where its two parts lie.
 abbrev pub parts-in : List ℕ → Parts
 parts-in b =
     record {
-      processes = processes-in b;
+      terms = record { version = version-in b; processes = processes-in b; present = byte b 6 };
       list = record { offset = list-offset b; size = list-size b };
       stamps = record { offset = stamps-offset b; size = stamps-size b };
     }
@@ -60,6 +60,8 @@ pub record Placed (b : List ℕ) (k : ℕ) (p : Part) : Type 0 where
 
 -- The parts of the sheet b lie as p says.
 pub record Lies (b : List ℕ) (p : Parts) : Type 0 where
-  pub processes : p .processes ≡ processes-in b
+  pub version : p .terms .version ≡ version-in b
+  pub processes : p .terms .processes ≡ processes-in b
+  pub present : p .terms .present ≡ byte b 6
   pub list : Placed b 8 (p .list)
   pub stamps : Placed b 16 (p .stamps)

@@ -3,15 +3,18 @@ ghost use mathlib.Core.Path.{_≡_};
 ghost use mathlib.Core.Bool.{_||_};
 ghost use Prim.Native.Nat.{_-_, _≤_, _<_, _^_};
 ghost use lib.Dec.{ltb};
-ghost use Rattle.paper.specs.Reading.{wrong-count, shared, header-checks};
+ghost use Rattle.paper.specs.Reading.{shared, header-checks};
 ghost use Rattle.paper.specs.Refusals.{of-call, outcome};
+ghost use Rattle.paper.specs.Terms.{wrong-count};
 ghost use Rattle.sheet.specs.Header.{headed, in-turn, parts-in, Placed, Lies};
 ghost use Rattle.sheet.specs.Header.{wrong-length, wrong-letters, wrong-version, wrong-zeros, wrong-list, wrong-stamps};
 use clock::Clock;
+use clock::Terms;
 use octets::read::byte_at;
 use octets::read::four_at;
 use octets::read::two_at;
 use octets::width::wide;
+use octets::width::wide16;
 use octets::width::wide32;
 
 // A part of a sheet: it begins at `offset` and has `size` bytes.
@@ -20,9 +23,9 @@ pub(crate) struct Part {
     pub size: usize,
 }
 
-// The process count, the event list and the stamps.
+// The terms, the event list and the stamps.
 pub(crate) struct Parts {
-    pub processes: usize,
+    pub terms: Terms,
     pub list: Part,
     pub stamps: Part,
 }
@@ -47,7 +50,11 @@ fn lay(sheet: &[u8]) -> Parts
     ensures { λ r. ⌜ Lies (now (sheet .entry)) r ⌝ }
 {
     Parts {
-        processes: wide(byte_at(sheet, 3)),
+        terms: Terms {
+            version: wide16(two_at(sheet, 4)),
+            processes: wide(byte_at(sheet, 3)),
+            present: wide(byte_at(sheet, 6)),
+        },
         list: part_at(sheet, 8),
         stamps: part_at(sheet, 16),
     }
@@ -162,7 +169,7 @@ fn refusal(sheet: &[u8], p: Parts) -> u8
         is_wrong_length(sheet),
         is_wrong_letters(sheet),
         is_wrong_version(sheet),
-        is_wrong_count(p.processes),
+        is_wrong_count(p.terms.processes),
         is_wrong_zeros(sheet),
         is_wrong_list(len, p.list),
         is_wrong_stamps(len, p.list, p.stamps),

@@ -6,11 +6,12 @@ pub mod stamps;
 ghost use Rattle.course.specs.Said.{work};
 ghost use Rattle.sheet.specs.Said.{Reads, Numbers, Where};
 use clock::Refusal;
+use clock::Terms;
 use header::Heading;
 
-// What a sheet says: the process count, where its event list lies, and how many values the stamps carry.
+// What a sheet says: its terms, where its event list lies, and how many values the stamps carry.
 pub struct Contents {
-    pub processes: usize,
+    pub terms: Terms,
     pub offset: usize,
     pub size: usize,
     pub carried: usize,
@@ -36,12 +37,7 @@ pub fn read_lamport(
 {
     match header::head(sheet) {
         Heading::Refused(number) => Reading::Refused(Refusal::of_call(number)),
-        Heading::Done(p) => {
-            if lamports.len() < p.list.size / 8 {
-                return Reading::Refused(Refusal::of_call(9));
-            }
-            reader::judged(sheet, p, clocks, masks, values, lamports)
-        }
+        Heading::Done(p) => reader::judged(sheet, p, clocks, masks, values, lamports),
     }
 }
 

@@ -1,13 +1,11 @@
 // The events of a sheet whose header is right, then its recorded stamps.
 ghost use mathlib.Core.Path.{_≡_};
 ghost use mathlib.Core.Bool.{cond};
-ghost use Prim.Native.Nat.{_/_, _≤_};
 ghost use lib.Dec.{eqb};
-ghost use lib.ListN.{length};
 ghost use Rattle.clock.specs.Said.{refusal};
 ghost use Rattle.paper.specs.Event.{how-many};
 ghost use Rattle.paper.specs.Reading.{header-checks, stamps-refused};
-ghost use Rattle.course.specs.Said.{work, late, late-lamports};
+ghost use Rattle.course.specs.Said.{work, wiped, wiped-slots};
 ghost use Rattle.sheet.specs.Header.{parts-in};
 ghost use Rattle.sheet.specs.Slots.{slot-pieces, Slots};
 ghost use Rattle.sheet.specs.Said.{Numbers, Where};
@@ -31,8 +29,8 @@ fn recorded(
     ensures { λ r. ⌜ (refusal r ≡ stamps-refused 0 (slot-pieces (now (list .entry)) (now (masks .entry)) (now (values .entry))) (now (stamps .entry)))
         × (work (now (clocks .exit)) (now (masks .exit)) (now (values .exit))
         ≡ cond (eqb (refusal r .number) 0) (work (now (clocks .entry)) (now (masks .entry)) (now (values .entry)))
-        (late n (how-many (now (list .entry))) (work (now (clocks .entry)) (now (masks .entry)) (now (values .entry)))))
-        × (now (lamports .exit) ≡ cond (eqb (refusal r .number) 0) (now (lamports .entry)) (late-lamports (how-many (now (list .entry))) (now (lamports .entry)))) ⌝ }
+        (wiped n (how-many (now (list .entry))) (work (now (clocks .entry)) (now (masks .entry)) (now (values .entry)))))
+        × (now (lamports .exit) ≡ cond (eqb (refusal r .number) 0) (now (lamports .entry)) (wiped-slots (how-many (now (list .entry))) (now (lamports .entry)))) ⌝ }
 {
     let r = super::stamps::compare(list, masks, values, stamps);
     if r.number != 0 {
@@ -51,26 +49,34 @@ pub(crate) fn judged(
     values: &mut [u16],
     lamports: &mut [u16],
 ) -> Reading
-    requires { ⌜ (header-checks (now sheet) 0 ≡ 0) × (p ≡ parts-in (now sheet)) × (p .list .size / 8 ≤ length (now lamports)) ⌝ }
+    requires { ⌜ (header-checks (now sheet) 0 ≡ 0) × (p ≡ parts-in (now sheet)) ⌝ }
     ensures { λ r. ⌜ Numbers (now (sheet .entry)) (work (now (clocks .entry)) (now (masks .entry)) (now (values .entry))) (now (lamports .entry))
         r (work (now (clocks .exit)) (now (masks .exit)) (now (values .exit))) (now (lamports .exit)) ⌝ }
     ensures { λ r. ⌜ Where (now (sheet .entry)) r ⌝ }
 {
-    let n = p.processes;
+    let terms = p.terms;
     let offset = p.list.offset;
     let size = p.list.size;
     let list = &sheet[offset..offset + size];
-    match course::strict_lamport(n, list, clocks, masks, values, lamports) {
+    match course::strict_lamport(terms, list, clocks, masks, values, lamports) {
         Judged::Refused(r) => Reading::Refused(r),
         Judged::Done(carried) => {
             let at = p.stamps.offset;
             let stamps = &sheet[at..at + p.stamps.size];
-            let r = recorded(n, list, stamps, clocks, masks, values, lamports);
+            let r = recorded(
+                terms.processes,
+                list,
+                stamps,
+                clocks,
+                masks,
+                values,
+                lamports,
+            );
             if r.number != 0 {
                 return Reading::Refused(r);
             }
             Reading::Done(Contents {
-                processes: n,
+                terms: terms,
                 offset: offset,
                 size: size,
                 carried: carried,

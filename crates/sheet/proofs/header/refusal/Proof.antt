@@ -6,7 +6,7 @@ use Rattle.sheet.proofs.header.refusal.Tie as tie
 returns : tie.Need-returns
 returns c =
     let d = c .before .before .before .before in
-    in-order _ _ (d .before .before .before .before .before .pre) _ _ _ _ _ _ _ _ (d .before .before .before .is-wrong-length .ensures) (d .before .before .is-wrong-letters .ensures)
+    in-order (d .before .before .before .before .before .pre) (d .before .before .before .is-wrong-length .ensures) (d .before .before .is-wrong-letters .ensures)
     (d .before .is-wrong-version .ensures) (d .is-wrong-count .ensures) (c .before .before .before .is-wrong-zeros .ensures) (c .before .before .is-wrong-list .ensures)
     (c .before .is-wrong-stamps .ensures) (c .first-of .ensures)
 
