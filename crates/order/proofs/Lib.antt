@@ -1,5 +1,6 @@
 mod Judging
 mod Asked
 mod Linked
+mod OfSheet
 mod Seeking
 mod Walking

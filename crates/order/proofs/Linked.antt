@@ -28,7 +28,7 @@ use Rattle.order.proofs.Asked.{comparison-refused, list-past}
 use Rattle.order.proofs.Walking.{few}
 
 -- What refuses the checks before the chain, and what refuses the comparison.
-linking-refused :
+pub linking-refused :
     (c : Checks) (t : Terms) (list : List ℕ) (w : Work) (a b : ℕ) (out : List ℕ) {given : Refusal} {w′ : Work}
     → (refused given, w′) ≡ comparison c t list w a b → ((refused given, w′), out) ≡ linking c t list w a b out
 linking-refused c t list w a b out {given} {w′} h =

@@ -1,11 +1,11 @@
-// Questions on a list: which of two events is before the other, and by which messages.
+// Questions on a list or a sheet: which of two events is before the other, and by which messages.
 mod path;
 
 ghost use mathlib.Core.Path.{_≡_};
 ghost use Prim.Native.Nat.{ℕ, _-_};
 ghost use lib.ListN.{length};
 ghost use Rattle.paper.specs.Buffers.{Work};
-ghost use Rattle.paper.specs.Questions.{chain-slots, comparing, chaining};
+ghost use Rattle.paper.specs.Questions.{chain-slots, comparing, chaining, comparing-sheet, chaining-sheet};
 ghost use Rattle.paper.specs.Stands.{Stands};
 ghost use Rattle.clock.specs.Said.{stated, number, ordered};
 ghost use Rattle.course.specs.Said.{work};
@@ -19,6 +19,7 @@ use clock::Refusal;
 use clock::Terms;
 use clock::Verdict;
 use course::Judged;
+use sheet::Reading;
 
 // What comparing two events of a list answers.
 pub enum Compared {
@@ -91,6 +92,29 @@ pub fn compare(
     }
 }
 
+// The verdict on two events of a sheet.
+pub fn compare_sheet(
+    sheet: &[u8],
+    clocks: &mut [u16],
+    masks: &mut [u32],
+    values: &mut [u16],
+    first: Position,
+    second: Position,
+) -> Compared
+    ensures { λ r. ⌜ (compared r, work (now (clocks .exit)) (now (masks .exit)) (now (values .exit)))
+        ≡ comparing-sheet (now (sheet .entry)) (work (now (clocks .entry)) (now (masks .entry)) (now (values .entry))) (first .0) (second .0) ⌝ }
+{
+    match sheet::read(sheet, clocks, masks, values) {
+        Reading::Refused(r) => Compared::Refused(r),
+        Reading::Done(c) => {
+            let terms = c.terms;
+            let from = c.offset;
+            let list = &sheet[from..from + c.size];
+            comparison(terms, list, clocks, masks, values, first, second)
+        }
+    }
+}
+
 // How many messages a chain between n processes has at most: with one process none.
 fn room(n: usize) -> usize
     ensures { λ r. ⌜ r ≡ chain-slots n ⌝ }
@@ -160,5 +184,29 @@ pub fn chain(
     match course::strict(terms, list, clocks, masks, values) {
         Judged::Refused(r) => Chained::Refused(r),
         Judged::Done(_) => linking(terms, list, clocks, masks, values, first, second, out),
+    }
+}
+
+// The chain from one event of a sheet to another.
+pub fn chain_sheet(
+    sheet: &[u8],
+    clocks: &mut [u16],
+    masks: &mut [u32],
+    values: &mut [u16],
+    first: Position,
+    second: Position,
+    out: &mut [u16],
+) -> Chained
+    ensures { λ r. ⌜ ((chained r, work (now (clocks .exit)) (now (masks .exit)) (now (values .exit))), now (out .exit))
+        ≡ chaining-sheet (now (sheet .entry)) (work (now (clocks .entry)) (now (masks .entry)) (now (values .entry))) (first .0) (second .0) (now (out .entry)) ⌝ }
+{
+    match sheet::read(sheet, clocks, masks, values) {
+        Reading::Refused(r) => Chained::Refused(r),
+        Reading::Done(c) => {
+            let terms = c.terms;
+            let from = c.offset;
+            let list = &sheet[from..from + c.size];
+            linking(terms, list, clocks, masks, values, first, second, out)
+        }
     }
 }
