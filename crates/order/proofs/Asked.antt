@@ -1,71 +1,71 @@
--- From the strict course to the questions: what refuses the list refuses the question, and after it the later checks and the answer.
-use Prim.Native.Nat.{ℕ, suc, _+_, _*_, _≤_, _<_}
-use native.Mathlib.Nat.{mul-le-mul-left}
+-- From the events to the questions: what refuses the list or the sheet refuses the question, and behind it come 20 and the verdict.
+use Prim.Native.Nat.{ℕ}
 use native.Mathlib.Omega.{arith}
-use mathlib.Core.Path.{_≡_, refl, ap, _∙_}
-use mathlib.Core.Bool.{true, false}
-use mathlib.Core.List.{List}
-use lib.ListN.{length}
-use Rattle.paper.specs.Buffers.{Work, entries, filled}
+use mathlib.Core.Path.{_≡_, ap, _∙_}
+use mathlib.Core.Bool.{true, false, not}
+use mathlib.Core.List.{List, []}
+use lib.Dec.{ltb}
+use borrow.Author.Tests.{eq-eqb}
+use Rattle.paper.specs.Buffers.{Work, entries, call}
 use Rattle.paper.specs.Event.{how-many}
-use Rattle.paper.specs.Order.{verdict}
-use Rattle.paper.specs.Questions.{list-refusal, list-work, strict, no-such, judged, comparing-refusal, comparing}
-use Rattle.paper.specs.Refusals.{first, Refusal, of-call, refused, done}
-use Rattle.paper.proofs.Laws.Refused.{after-done}
-use Rattle.paper.proofs.RoundTrip.{list-accepted}
+use Rattle.paper.specs.Machine.{accepted-of}
+use Rattle.paper.specs.Questions.{strict-checks, strict, judged, comparison, comparing}
+use Rattle.paper.specs.Refusals.{Refusal, of-call, Checks, Outcome, refused, done}
+use Rattle.paper.specs.Terms.{Terms}
+use Rattle.paper.proofs.Also.{call-done, also-refused}
 use Rattle.paper.proofs.Sheets.Checks.{below, neither}
-use Rattle.course.specs.Said.{late, of-list}
-use Rattle.course.proofs.Passed.{passed-on, Passed, still, late-cleared}
-use Rattle.order.specs.Stands.{Stands, row}
-use Rattle.order.proofs.Accepted.{stands}
-use Rattle.order.proofs.Rows.{verdict-rows}
+use Rattle.paper.proofs.Stands.{list-stands, all}
+use Rattle.course.specs.Said.{wiped}
+use Rattle.course.proofs.Passed.{wiped-held}
+use Rattle.order.specs.Judge.{not-both, row-verdict}
+use Rattle.order.specs.Rest.{Past, Compares}
+use Rattle.order.proofs.Judging.{row-judged}
 
-module _ (n : ℕ) (list : List ℕ) (w w′ : Work) where
-  pub passed : (r : Refusal) → r .number ≡ 0 → list-refusal n list w .number ≡ 0 → w′ ≡ list-work r n list w → Passed n list w w′
-  passed r z none is =
-      let (given, room) = list-accepted n list w .0 none in
-      record { none = none; given = given; room = room; is = is ∙ after-done (r .number) n (how-many list) (of-list n list) w z }
+-- What is left of comparing, in its two cases.
+module _ {t : Terms} {list : List ℕ} {w′ : Work} {a b : ℕ} where
+  pub compare-none :
+      {given : Refusal} {w″ : Work} → not-both (how-many list) a b ≡ true → given ≡ of-call 20 → w″ ≡ wiped (t .processes) (how-many list) w′
+      → Compares t list w′ a b (refused given) w″
+  compare-none h g q =
+      record {
+        ends = λ c w p.
+            let x = q ∙ wiped-held (p .stands .held) in
+            rw (eq-eqb (c .early) 0 (p .early), eq-eqb (c .late .number) 0 (p .late), h) (λ i. (refused (g i), x i));
+      }
 
-  module _ (p : Passed n list w w′) where
-    pub passed-stands : Stands n list (w′ .clocks)
-    unfolding filled
-    passed-stands = stands n list (w .clocks) (w′ .clocks) (p .given) (still n list w w′ p .clocks) (ap (λ (v : Work). v .clocks) (p .is))
+  pub compare-judged : {r : Outcome ℕ} → not-both (how-many list) a b ≡ false → r ≡ row-verdict (t .processes) (w′ .clocks) a b → Compares t list w′ a b r w′
+  compare-judged {r} h e =
+      let m = how-many list in
+      let (l, k) = neither (not (ltb a m)) (not (ltb b m)) (below a m) (below b m) .0 h in
+      record {
+        ends = λ c w p.
+            let s = p .stands in
+            let q : r ≡ done (judged (t .processes) (accepted-of t list) a b) = e ∙ row-judged (s .held) a b (omega (arith, all s)) (omega (arith, all s)) in
+            let x = s .held .is in
+            rw (eq-eqb (c .early) 0 (p .early), eq-eqb (c .late .number) 0 (p .late), h) (λ i. (q i, x i));
+      }
 
-module _ (n : ℕ) (list : List ℕ) (w : Work) (a b : ℕ) where
-  pub compare-refused : (given : Refusal) (w′ : Work) → (refused given, w′) ≡ strict n list w → (refused given, w′) ≡ comparing n list w a b
-  unfolding strict comparing comparing-refusal
-  compare-refused given w′ h =
-      passed-on (list-refusal n list w) (of-call (first (no-such list a b) 20 0)) (entries (of-list n list)) (judged n (of-list n list) a b)
-      (λ r. list-work r n list w) given w′ h
+-- What refuses the checks before the question.
+pub comparison-refused :
+    {A : Type 0} (c : Checks) (answered : A) (t : Terms) (list : List ℕ) (w : Work) (a b : ℕ) {given : Refusal} {w′ : Work}
+    → (refused given, w′) ≡ call c answered t list w → (refused given, w′) ≡ comparison c t list w a b
+comparison-refused c answered t list w a b {given} {w′} h =
+    ap (λ x. x .0) (also-refused {C = ℕ} c _ answered (judged (t .processes) (accepted-of t list) a b) t list w 0 0 given w′ h)
 
-  module _ (w′ : Work) (p : Passed n list w w′) where
-    pub compare-none :
-        (given : Refusal) (w″ : Work) → no-such list a b ≡ true → given ≡ of-call 20 → w″ ≡ late n (how-many list) w′
-        → (refused given, w″) ≡ comparing n list w a b
-    unfolding comparing comparing-refusal
-    compare-none given w″ h e q =
-        let x = q ∙ late-cleared n list w w′ p 20 (omega arith) in
-        rw (p .none, h) (λ i. (refused (e i), x i))
+-- The questions on a list.
+module _ (t : Terms) (list : List ℕ) (w : Work) where
+  pub list-past : {v : ℕ} {w′ : Work} → (done v, w′) ≡ strict t list w → Past (strict-checks t list w []) t list w w′
+  unfolding strict
+  list-past {v} {w′} h =
+      let z = call-done (strict-checks t list w []) (entries (accepted-of t list)) v t list w w′ h .0 in
+      record { early = z .0; late = z .1; stands = list-stands [] (entries (accepted-of t list)) v h .0 }
 
-    inside : no-such list a b ≡ false → (a < how-many list) × (b < how-many list)
-    inside h = let m = how-many list in neither _ _ (below a m) (below b m) .0 h
-
-    -- The rows of two events of the list are there.
-    pub rows-there :
-        no-such list a b ≡ false
-        → (1 ≤ n) × (n ≤ 32) × (a < 512) × (b < 512) × (n * a + n ≤ length (w′ .clocks)) × (n * b + n ≤ length (w′ .clocks))
-    rows-there h =
-        let (l, k) = inside h in
-        let s = passed-stands n list w w′ p in
-        let x : n * suc a ≤ n * how-many list = mul-le-mul-left n l in
-        let y : n * suc b ≤ n * how-many list = mul-le-mul-left n k in
-        (s .some, s .few, omega (arith, s .brief), omega (arith, s .brief), omega (arith, s .slots), omega (arith, s .slots))
+  module _ (a b : ℕ) where
+    pub compare-refused : {given : Refusal} {w′ : Work} → (refused given, w′) ≡ strict t list w → (refused given, w′) ≡ comparing t list w a b
+    unfolding strict comparing
+    compare-refused h = comparison-refused (strict-checks t list w []) (entries (accepted-of t list)) t list w a b h
 
     pub compare-done :
-        (v : ℕ) → no-such list a b ≡ false → v ≡ verdict n (row n (w′ .clocks) a) (row n (w′ .clocks) b) → (done v, w′) ≡ comparing n list w a b
-    unfolding comparing comparing-refusal
-    compare-done v h e =
-        let (l, k) = inside h in
-        let q : v ≡ judged n (of-list n list) a b = e ∙ verdict-rows n list (w′ .clocks) (passed-stands n list w w′ p) a b l k in
-        let s = p .is in
-        rw (p .none, h, after-done 0 n (how-many list) (of-list n list) w refl) (λ i. (done (q i), s i))
+        {v : ℕ} {w′ w″ : Work} {r : Outcome ℕ} → (done v, w′) ≡ strict t list w → Compares t list w′ a b r w″ → (r, w″) ≡ comparing t list w a b
+    unfolding comparing
+    compare-done h q = q .ends (strict-checks t list w []) w (list-past h)

@@ -1,7 +1,6 @@
-pub mod Rows
-pub mod Accepted
-pub mod Asked
-pub mod OfSheet
-pub mod Seeking
-pub mod Walking
-pub mod Answered
+mod Judging
+mod Asked
+mod Linked
+mod OfSheet
+mod Seeking
+mod Walking

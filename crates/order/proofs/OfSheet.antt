@@ -1,62 +1,51 @@
--- A sheet that is accepted: its list passed, its events' clocks stand in the slots, and its header tells how many events there are.
-use Prim.Native.Nat.{ℕ, _/_}
+-- The questions on a sheet: what refuses the sheet refuses the question, and on an accepted one they end as on its list.
+use Prim.Native.Nat.{ℕ, _+_, _-_}
 use native.Mathlib.Omega.{arith}
-use mathlib.Core.Path.{_≡_, sym, ap, _∙_}
-use mathlib.Core.List.{List}
-use lib.ListN.{length, take, drop, length-take, length-drop}
+use mathlib.Core.Path.{_≡_, sym, ap, _∙_, subst₂}
+use mathlib.Core.List.{List, []}
+use lib.ListN.{take, drop}
 use Rattle.paper.specs.Buffers.{Work}
-use Rattle.paper.specs.Event.{how-many}
-use Rattle.paper.specs.Reading.{Read, read-of, reading-refusal, reading}
-use Rattle.paper.specs.Refusals.{Outcome, done}
-use Rattle.paper.specs.Sheet.{Sheet, processes-in, list-offset, list-size, list-in}
-use Rattle.paper.proofs.Laws.Refused.{after-done}
-use Rattle.paper.proofs.ReadExactly.{reading-number, reading-done}
-use Rattle.paper.proofs.RoundTrip.{list-accepted}
-use Rattle.paper.proofs.Sheets.Checks.{Room}
-use Rattle.paper.proofs.Sheets.Layout.{Given}
-use Rattle.course.proofs.Passed.{Passed}
-use Rattle.order.specs.Stands.{Stands}
-use Rattle.order.proofs.Asked.{passed-stands}
+use Rattle.paper.specs.Questions.{comparing-sheet, chaining-sheet}
+use Rattle.paper.specs.Reading.{read-of, reading-checks, reading}
+use Rattle.paper.specs.Refusals.{Refusal, Outcome, refused}
+use Rattle.paper.specs.Sheet.{terms-in, list-in}
+use Rattle.paper.specs.Stands.{Stands}
+use Rattle.paper.specs.Terms.{Terms}
+use Rattle.sheet.proofs.Accepted.{Accepted}
+use Rattle.order.specs.Rest.{Past, Compares, Links}
+use Rattle.order.proofs.Asked.{comparison-refused}
+use Rattle.order.proofs.Linked.{linking-refused}
 
--- What is read stands in the sheet b from the place `at` on.
-abbrev pub found : List ℕ → ℕ → ℕ → ℕ → ℕ → Read
-found b n at size carried = record { processes = n; list = take size (drop at b); carried = carried }
+module _ (b : List ℕ) (w : Work) (i j : ℕ) {given : Refusal} {w′ : Work} (h : (refused given, w′) ≡ reading b w) where
+  pub compare-refused : (refused given, w′) ≡ comparing-sheet b w i j
+  unfolding reading comparing-sheet
+  compare-refused = comparison-refused (reading-checks b w []) (read-of (terms-in b) (list-in b)) (terms-in b) (list-in b) w i j h
 
-module _ (b : List ℕ) (w w′ : Work) (a : Read) (h : (done a, w′) ≡ reading b w) where
-  abbrev n : ℕ
-  n = processes-in b
+  pub chain-refused : (out : List ℕ) → ((refused given, w′), out) ≡ chaining-sheet b w i j out
+  unfolding chaining-sheet comparing-sheet
+  chain-refused out = linking-refused (reading-checks b w []) (terms-in b) (list-in b) w i j out compare-refused
 
-  abbrev list : List ℕ
-  list = list-in b
+module _ {b : List ℕ} {w w′ : Work} {t : Terms} {at size carried : ℕ} (s : Accepted b w w′ t at size carried) where
+  -- The list as it is lent.
+  abbrev lent : List ℕ
+  lent = take (at + size - at) (drop at b)
 
-  pub unrefused : (reading-refusal b w .number ≡ 0) × (read-of n list ≡ a)
-  unrefused = reading-done b w a .0 (sym (ap (λ (x : Outcome Read × Work). x .0) h))
+  is-lent : list-in b ≡ lent
+  is-lent = let e : size ≡ at + size - at = omega arith in s .list ∙ ap (λ (k : ℕ). take k (drop at b)) e
 
-  pub is-sheet : Sheet b n list × Room n (how-many list) w
-  is-sheet = reading-number b w .0 (unrefused .0)
+  past : Past (reading-checks b w []) (terms-in b) (list-in b) w w′
+  past = record { early = s .early; late = s .late; stands = s .stands }
 
-  pub sheet-passed : Passed n list w w′
-  unfolding reading
-  sheet-passed =
-      let (sheet, roomy) = is-sheet in
-      let given : Given n list =
-      record { processes = (sheet .processes .1, sheet .processes .2); whole-records = sheet .whole-records; accepted = sheet .accepted } in
-      record {
-        none = list-accepted n list w .1 (given, roomy);
-        given = given;
-        room = roomy;
-        is = ap (λ (x : Outcome Read × Work). x .1) h ∙ after-done _ _ _ _ _ (unrefused .0);
-      }
+  pub lent-stands : (v : Work) × Stands t lent v w′
+  lent-stands = (w, subst₂ (λ (t : Terms) (l : List ℕ). Stands t l w w′) (s .terms) is-lent (s .stands))
 
-  pub sheet-stands : Stands n list (w′ .clocks)
-  sheet-stands = passed-stands n list w w′ sheet-passed
+  module _ {i j : ℕ} {r : Outcome ℕ} {w″ : Work} where
+    pub compare-done : Compares t lent w′ i j r w″ → (r, w″) ≡ comparing-sheet b w i j
+    unfolding comparing-sheet
+    compare-done h =
+        subst₂ (λ (t : Terms) (l : List ℕ). Compares t l w′ i j r w″) (sym (s .terms)) (sym is-lent) h .ends (reading-checks b w []) w past
 
-  pub same-count : n ≡ a .processes
-  unfolding read-of
-  same-count = ap (λ (r : Read). r .processes) (unrefused .1)
-
-  pub same-size : (size : ℕ) → size ≡ list-size b → how-many list ≡ size / 8
-  same-size size e =
-      let inside = is-sheet .0 .events-there .inside in
-      let l : length list ≡ size = omega (arith, length-take (list-size b) (drop (list-offset b) b), length-drop (list-offset b) b) in
-      ap (λ (k : ℕ). k / 8) l
+    pub chain-done : {out out′ : List ℕ} → Links t lent w′ i j out r w″ out′ → ((r, w″), out′) ≡ chaining-sheet b w i j out
+    unfolding chaining-sheet
+    chain-done {out} {out′} h =
+        subst₂ (λ (t : Terms) (l : List ℕ). Links t l w′ i j out r w″ out′) (sym (s .terms)) (sym is-lent) h .ends (reading-checks b w []) w past

@@ -1,2 +1,4 @@
 pub mod Said
-pub mod Stands
+pub mod Judge
+pub mod Rest
+pub mod Walk

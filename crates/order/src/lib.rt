@@ -1,21 +1,25 @@
-// Questions on a list: which of two events is before the other, and by which messages.
+// Questions on a list or a sheet: which of two events is before the other, and by which messages.
 mod path;
 
 ghost use mathlib.Core.Path.{_≡_};
-ghost use Prim.Native.Nat.{_+_, _-_, _*_, _≤_, _<_};
+ghost use Prim.Native.Nat.{ℕ, _-_};
 ghost use lib.ListN.{length};
-ghost use Rattle.paper.specs.Order.{verdict};
-ghost use Rattle.paper.specs.Questions.{comparing, chaining};
-ghost use Rattle.paper.specs.Refusals.{of-call};
-ghost use Rattle.clock.specs.Said.{refusal, number};
-ghost use Rattle.course.specs.Said.{work, late};
+ghost use Rattle.paper.specs.Buffers.{Work};
+ghost use Rattle.paper.specs.Questions.{chain-slots, comparing, chaining, comparing-sheet, chaining-sheet};
+ghost use Rattle.paper.specs.Stands.{Stands};
+ghost use Rattle.clock.specs.Said.{stated, number, ordered};
+ghost use Rattle.course.specs.Said.{work};
 ghost use Rattle.order.specs.Said.{compared, chained};
-ghost use Rattle.order.specs.Stands.{past-20, row};
+ghost use Rattle.order.specs.Judge.{row-verdict};
+ghost use Rattle.order.specs.Rest.{Compares, Links, past-20};
+use clock::Clock;
 use clock::Ordered;
 use clock::Position;
 use clock::Refusal;
+use clock::Terms;
 use clock::Verdict;
 use course::Judged;
+use sheet::Reading;
 
 // What comparing two events of a list answers.
 pub enum Compared {
@@ -29,40 +33,49 @@ pub enum Chained {
     Done(usize),
 }
 
-// A refusal after the events: the slots named for m events of n processes are set to 0.
-fn refuse(
-    given: u8,
-    n: usize,
-    m: usize,
+// The verdict on two events whose clocks stand in slots, n slots to each; 4 where n is not 1 to 32, or the slots of an event are not all there.
+pub fn judge(n: usize, clocks: &[u16], first: Position, second: Position) -> Ordered
+    ensures { λ r. ⌜ ordered r ≡ row-verdict n (now (clocks .entry)) (first .0) (second .0) ⌝ }
+{
+    if (n < 1) | (Clock::PROCESSES < n) {
+        return Ordered::Refused(Refusal::of_call(4));
+    }
+    let rows = clocks.len() / n;
+    if !(first.0 < rows) | !(second.0 < rows) {
+        return Ordered::Refused(Refusal::of_call(4));
+    }
+    let a = n * first.0;
+    let b = n * second.0;
+    clock::order(&clocks[a..a + n], &clocks[b..b + n])
+}
+
+// What is left of comparing where the events of the list stand in the slots: 20, or the verdict.
+fn comparison(
+    terms: Terms,
+    list: &[u8],
     clocks: &mut [u16],
     masks: &mut [u32],
     values: &mut [u16],
-) -> Refusal
-    ensures { λ r. ⌜ (refusal r ≡ of-call given)
-        × (work (now (clocks .exit)) (now (masks .exit)) (now (values .exit))
-        ≡ late n m (work (now (clocks .entry)) (now (masks .entry)) (now (values .entry)))) ⌝ }
+    first: Position,
+    second: Position,
+) -> Compared
+    ensures { λ r. ⌜ Compares (stated terms) (now (list .entry)) (work (now (clocks .entry)) (now (masks .entry)) (now (values .entry)))
+        (first .0) (second .0) (compared r) (work (now (clocks .exit)) (now (masks .exit)) (now (values .exit))) ⌝ }
 {
-    course::clear(n, m, clocks, masks, values);
-    Refusal::of_call(given)
-}
-
-// The verdict on the clocks of two events, whose n slots each begin at n times the position.
-fn judge(n: usize, clocks: &[u16], first: Position, second: Position) -> Verdict
-    requires { ⌜ (1 ≤ n) × (n ≤ 32) × (first .0 < 512) × (second .0 < 512)
-        × (n * first .0 + n ≤ length (now clocks)) × (n * second .0 + n ≤ length (now clocks)) ⌝ }
-    ensures { λ r. ⌜ number r ≡ verdict n (row n (now (clocks .entry)) (first .0)) (row n (now (clocks .entry)) (second .0)) ⌝ }
-{
-    let a = n * first.0;
-    let b = n * second.0;
-    match clock::order(&clocks[a..a + n], &clocks[b..b + n]) {
-        Ordered::Refused(_) => Verdict::Neither,
-        Ordered::Done(v) => v,
+    let m = list.len() / 8;
+    if !(first.0 < m) | !(second.0 < m) {
+        course::clear(terms.processes, m, clocks, masks, values);
+        return Compared::Refused(Refusal::of_call(20));
+    }
+    match judge(terms.processes, clocks, first, second) {
+        Ordered::Refused(r) => Compared::Refused(r),
+        Ordered::Done(v) => Compared::Done(v),
     }
 }
 
 // The verdict on two events of a list.
 pub fn compare(
-    n: usize,
+    terms: Terms,
     list: &[u8],
     clocks: &mut [u16],
     masks: &mut [u32],
@@ -71,24 +84,40 @@ pub fn compare(
     second: Position,
 ) -> Compared
     ensures { λ r. ⌜ (compared r, work (now (clocks .exit)) (now (masks .exit)) (now (values .exit)))
-        ≡ comparing n (now (list .entry)) (work (now (clocks .entry)) (now (masks .entry)) (now (values .entry))) (first .0) (second .0) ⌝ }
+        ≡ comparing (stated terms) (now (list .entry)) (work (now (clocks .entry)) (now (masks .entry)) (now (values .entry))) (first .0) (second .0) ⌝ }
 {
-    let course = course::strict(n, list, clocks, masks, values);
-    match course {
+    match course::strict(terms, list, clocks, masks, values) {
         Judged::Refused(r) => Compared::Refused(r),
-        Judged::Done(_) => {
-            let m = list.len() / 8;
-            if !(first.0 < m) | !(second.0 < m) {
-                return Compared::Refused(refuse(20, n, m, clocks, masks, values));
-            }
-            Compared::Done(judge(n, clocks, first, second))
+        Judged::Done(_) => comparison(terms, list, clocks, masks, values, first, second),
+    }
+}
+
+// The verdict on two events of a sheet.
+pub fn compare_sheet(
+    sheet: &[u8],
+    clocks: &mut [u16],
+    masks: &mut [u32],
+    values: &mut [u16],
+    first: Position,
+    second: Position,
+) -> Compared
+    ensures { λ r. ⌜ (compared r, work (now (clocks .exit)) (now (masks .exit)) (now (values .exit)))
+        ≡ comparing-sheet (now (sheet .entry)) (work (now (clocks .entry)) (now (masks .entry)) (now (values .entry))) (first .0) (second .0) ⌝ }
+{
+    match sheet::read(sheet, clocks, masks, values) {
+        Reading::Refused(r) => Compared::Refused(r),
+        Reading::Done(c) => {
+            let terms = c.terms;
+            let from = c.offset;
+            let list = &sheet[from..from + c.size];
+            comparison(terms, list, clocks, masks, values, first, second)
         }
     }
 }
 
 // How many messages a chain between n processes has at most: with one process none.
 fn room(n: usize) -> usize
-    ensures { λ r. ⌜ r ≡ n - 1 ⌝ }
+    ensures { λ r. ⌜ r ≡ chain-slots n ⌝ }
 {
     if n < 2 {
         return 0;
@@ -109,9 +138,9 @@ fn late_number(v: Verdict, room: usize, slots: usize) -> u8
     0
 }
 
-// The chain from one event of a list to another: the positions of its sends, at the front of the output.
-pub fn chain(
-    n: usize,
+// What is left of the chain where the events of the list stand in the slots: 20, 22, 21, or the positions of its sends.
+fn linking(
+    terms: Terms,
     list: &[u8],
     clocks: &mut [u16],
     masks: &mut [u32],
@@ -120,18 +149,64 @@ pub fn chain(
     second: Position,
     out: &mut [u16],
 ) -> Chained
-    ensures { λ r. ⌜ (chained r, work (now (clocks .exit)) (now (masks .exit)) (now (values .exit)), now (out .exit))
-        ≡ chaining n (now (list .entry)) (work (now (clocks .entry)) (now (masks .entry)) (now (values .entry))) (first .0) (second .0) (now (out .entry)) ⌝ }
+    requires { ⌜ ((w : Work) × Stands (stated terms) (now list) w (work (now clocks) (now masks) (now values))) ⌝ }
+    ensures { λ r. ⌜ Links (stated terms) (now (list .entry)) (work (now (clocks .entry)) (now (masks .entry)) (now (values .entry)))
+        (first .0) (second .0) (now (out .entry))
+        (chained r) (work (now (clocks .exit)) (now (masks .exit)) (now (values .exit))) (now (out .exit)) ⌝ }
 {
-    let asked = compare(n, list, clocks, masks, values, first, second);
-    match asked {
+    match comparison(terms, list, clocks, masks, values, first, second) {
         Compared::Refused(r) => Chained::Refused(r),
         Compared::Done(v) => {
-            let late = late_number(v, room(n), out.len());
+            let late = late_number(v, room(terms.processes), out.len());
             if late != 0 {
-                return Chained::Refused(refuse(late, n, list.len() / 8, clocks, masks, values));
+                course::clear(terms.processes, list.len() / 8, clocks, masks, values);
+                return Chained::Refused(Refusal::of_call(late));
             }
-            Chained::Done(path::walk(n, list, clocks, first, second, out))
+            Chained::Done(path::walk(terms, list, clocks, first, second, out))
+        }
+    }
+}
+
+// The chain from one event of a list to another: the positions of its sends, at the front of the output.
+pub fn chain(
+    terms: Terms,
+    list: &[u8],
+    clocks: &mut [u16],
+    masks: &mut [u32],
+    values: &mut [u16],
+    first: Position,
+    second: Position,
+    out: &mut [u16],
+) -> Chained
+    ensures { λ r. ⌜ ((chained r, work (now (clocks .exit)) (now (masks .exit)) (now (values .exit))), now (out .exit))
+        ≡ chaining (stated terms) (now (list .entry)) (work (now (clocks .entry)) (now (masks .entry)) (now (values .entry))) (first .0) (second .0) (now (out .entry)) ⌝ }
+{
+    match course::strict(terms, list, clocks, masks, values) {
+        Judged::Refused(r) => Chained::Refused(r),
+        Judged::Done(_) => linking(terms, list, clocks, masks, values, first, second, out),
+    }
+}
+
+// The chain from one event of a sheet to another.
+pub fn chain_sheet(
+    sheet: &[u8],
+    clocks: &mut [u16],
+    masks: &mut [u32],
+    values: &mut [u16],
+    first: Position,
+    second: Position,
+    out: &mut [u16],
+) -> Chained
+    ensures { λ r. ⌜ ((chained r, work (now (clocks .exit)) (now (masks .exit)) (now (values .exit))), now (out .exit))
+        ≡ chaining-sheet (now (sheet .entry)) (work (now (clocks .entry)) (now (masks .entry)) (now (values .entry))) (first .0) (second .0) (now (out .entry)) ⌝ }
+{
+    match sheet::read(sheet, clocks, masks, values) {
+        Reading::Refused(r) => Chained::Refused(r),
+        Reading::Done(c) => {
+            let terms = c.terms;
+            let from = c.offset;
+            let list = &sheet[from..from + c.size];
+            linking(terms, list, clocks, masks, values, first, second, out)
         }
     }
 }

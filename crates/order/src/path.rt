@@ -6,11 +6,14 @@ ghost use lib.ListN.{length, getD};
 ghost use lib.Seq.{sets};
 ghost use Rattle.paper.specs.Chain as paper;
 ghost use Rattle.clock.specs.Event.{process-at};
-ghost use Rattle.course.specs.Said.{of-list};
-ghost use Rattle.order.specs.Stands.{Stands, Reaches, sends, knows, is-send-of, Sent};
+ghost use Rattle.clock.specs.Said.{stated};
+ghost use Rattle.paper.specs.Machine.{accepted-of};
+ghost use Rattle.paper.specs.Questions.{chain-slots};
+ghost use Rattle.order.specs.Walk.{Standing, Reaches, path, knows, is-send-of, Sent};
 use clock::Message;
 use clock::Position;
 use clock::Process;
+use clock::Terms;
 use clock::event::SEND;
 use clock::event::kind_at;
 use clock::event::message_at;
@@ -28,7 +31,7 @@ fn component(n: usize, clocks: &[u16], a: Position, p: Process) -> u16
 
 // Whether the event at c is on that process, and its component for the process p is at least that own number.
 fn has_learnt(
-    n: usize,
+    terms: Terms,
     list: &[u8],
     clocks: &[u16],
     c: Position,
@@ -36,27 +39,27 @@ fn has_learnt(
     p: Process,
     own: u16,
 ) -> bool
-    requires { ⌜ (n * c .0 + p .0 < length (now clocks)) × (c .0 < 512) × (n ≤ 32) ⌝ }
-    ensures { λ r. ⌜ r ≡ knows n (now (list .entry)) (now (clocks .entry)) (c .0) (process .0) (p .0) own ⌝ }
+    requires { ⌜ (terms .processes * c .0 + p .0 < length (now clocks)) × (c .0 < 512) × (terms .processes ≤ 32) ⌝ }
+    ensures { λ r. ⌜ r ≡ knows (terms .processes) (now (list .entry)) (now (clocks .entry)) (c .0) (process .0) (p .0) own ⌝ }
 {
     let on = process_at(list, c);
-    (on.0 == process.0) & (own <= component(n, clocks, c, p))
+    (on.0 == process.0) & (own <= component(terms.processes, clocks, c, p))
 }
 
 // The first event on the second's process whose component for the first's process is at least the first's own number.
-fn learner(n: usize, list: &[u8], clocks: &[u16], first: Position, second: Position) -> Position
-    requires { ⌜ Stands n (now list) (now clocks) × Reaches n (now list) (first .0) (second .0)
+fn learner(terms: Terms, list: &[u8], clocks: &[u16], first: Position, second: Position) -> Position
+    requires { ⌜ Standing (stated terms) (now list) (now clocks) × Reaches (stated terms) (now list) (first .0) (second .0)
         × (process-at (now list) (second .0) ≢ process-at (now list) (first .0)) ⌝ }
-    ensures { λ r. ⌜ r .0 ≡ paper.learner (of-list n (now (list .entry))) (first .0) (second .0) ⌝ }
+    ensures { λ r. ⌜ r .0 ≡ paper.learner (accepted-of (stated terms) (now (list .entry))) (first .0) (second .0) ⌝ }
 {
     // Two numbers, since the loop's invariant can name no parameter that is a struct.
     let a = first.0;
     let b = second.0;
     let p = process_at(list, Position(a));
     let process = process_at(list, Position(b));
-    let own = component(n, clocks, Position(a), p);
+    let own = component(terms.processes, clocks, Position(a), p);
     let mut c: usize = 0;
-    while !has_learnt(n, list, clocks, Position(c), process, p, own) {
+    while !has_learnt(terms, list, clocks, Position(c), process, p, own) {
         c += 1;
     }
     Position(c)
@@ -84,25 +87,26 @@ fn sender(list: &[u8], message: Message) -> Position
 
 // The positions of the chain's sends, in causal order, at the front of the output; and how many they are.
 pub(crate) fn walk(
-    n: usize,
+    terms: Terms,
     list: &[u8],
     clocks: &[u16],
     first: Position,
     second: Position,
     out: &mut [u16],
 ) -> usize
-    requires { ⌜ Stands n (now list) (now clocks) × Reaches n (now list) (first .0) (second .0) × (n - 1 ≤ length (now out)) ⌝ }
-    ensures { λ r. ⌜ (r ≡ length (sends n (now (list .entry)) (first .0) (second .0)))
-        × (now (out .exit) ≡ sets (now (out .entry)) 0 (sends n (now (list .entry)) (first .0) (second .0))) ⌝ }
+    requires { ⌜ Standing (stated terms) (now list) (now clocks) × Reaches (stated terms) (now list) (first .0) (second .0)
+        × (chain-slots (terms .processes) ≤ length (now out)) ⌝ }
+    ensures { λ r. ⌜ (r ≡ length (path (stated terms) (now (list .entry)) (first .0) (second .0)))
+        × (now (out .exit) ≡ sets (now (out .entry)) 0 (path (stated terms) (now (list .entry)) (first .0) (second .0))) ⌝ }
 {
     let p = process_at(list, first);
     let q = process_at(list, second);
     if q.0 == p.0 {
         return 0;
     }
-    let r = learner(n, list, clocks, first, second);
+    let r = learner(terms, list, clocks, first, second);
     let s = sender(list, message_at(list, r));
-    let k = walk(n, list, clocks, first, s, out);
+    let k = walk(terms, list, clocks, first, s, out);
     out[k] = s.0 as u16;
     k + 1
 }

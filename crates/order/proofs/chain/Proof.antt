@@ -1,40 +1,39 @@
-use mathlib.Core.Path.{_≡_, ap, sym, _∙_}
-use denote.Ref.{now}
-use Rattle.paper.specs.Buffers.{Work}
-use Rattle.paper.specs.Questions.{comparing}
-use Rattle.paper.specs.Refusals.{done}
-use Rattle.clock.specs.Said.{number}
-use Rattle.course.specs.Said.{work}
-use Rattle.order.specs.Said.{compared}
-use Rattle.order.proofs.Answered.{chain-refused, chain-late, chain-reaches, chain-done}
 use borrow.Author.Needs.{needs}
+-- The events are judged, and what is left is left to `linking`.
+use mathlib.Core.Path.{_≡_, ap, sym, _∙_}
+use Rattle.paper.specs.Buffers.{Work}
+use Rattle.paper.specs.Questions as questions
+use Rattle.paper.specs.Refusals.{Outcome}
+use Prim.Native.Nat.{ℕ}
+use denote.Ref.{now}
+use Rattle.clock.specs.Said.{stated}
+use Rattle.course.specs.Said.{judged, work}
+use Rattle.order.proofs.Asked.{list-past}
+use Rattle.order.proofs.Linked.{chain-refused, chain-done}
 use Rattle.order.proofs.chain.Statement.{statement}
 use Rattle.order.proofs.chain.Tie as tie
 
--- The slots after comparing.
-abbrev slots : tie.After-compare → Work
-slots c = let t = c .compare .last in work (t .1 .1 .0) (t .1 .1 .1 .0) (t .1 .1 .1 .1 .0)
+-- The function's entry and the slots, from behind the strict course.
+abbrev entry : tie.After-strict → tie.Start
+entry c = c .before .before .before .before .before .before .before .before .before
 
-judged :
-    (c : tie.After-known-told2)
-    → let a = c .before .before .before .before .before .before .before .before .before .before .before .before .before .before .before .before .before .before .args in
-    (done (number (c .before .asked2 .given .0 .0)), slots (c .before .before .before .before .before .before .before .before .before))
-    ≡ comparing (a .n) (now (a .list)) (work (now (a .clocks)) (now (a .masks)) (now (a .values))) (a .first .0) (a .second .0)
-judged c = ap (λ r. (compared r, slots (c .before .before .before .before .before .before .before .before .before))) (sym (c .before .asked2 .given .1)) ∙ c .before .before .before .before .before .before .before .before .before .compare .ensures
+abbrev slots : tie.After-strict → Work
+slots c = let t = c .strict .last in work (t .1 .1 .0) (t .1 .1 .1 .0) (t .1 .1 .1 .1 .0)
+
+-- What the course ended with, by the case that was met.
+ended :
+    (c : tie.After-strict) {r : Outcome ℕ} → judged (c .strict .result) ≡ r → let a = entry c .args in
+    _≡_ {A = Outcome ℕ × Work} (r, slots c) (questions.strict (stated (a .terms)) (now (a .list)) (work (now (a .clocks)) (now (a .masks)) (now (a .values))))
+ended c e = ap (λ (r : Outcome ℕ). (r, slots c)) (sym e) ∙ c .strict .ensures
+
+linking-requires : tie.Need-linking-requires
+linking-requires c κs = let s = c .before .before .before .before .before .before .before .before .before .before .before .before in (_, list-past _ _ _ (ended s (ap judged (c .before .before .before .before .enum-told .given .1))) .stands)
 
 returns : tie.Need-returns
-returns c = let r = c .before .before .before .before .before .before .refuse .ensures in
-    chain-late _ _ _ _ _ _ _ _ (judged (c .before .before .before .before .before .before .before .before .before .before .before .before .before)) _ _ (c .before .before .before .before .before .before .before .before .before .before .before .before .room .ensures) (c .before .before .before .before .before .before .before .before .before .before .before .late-number .ensures) (c .before .before .before .before .before .before .before .before .before .before .if1 .taken) _ _ (r .0) (r .1)
-
-walk-requires : tie.Need-walk-requires
-walk-requires c κs = chain-reaches _ _ _ _ _ (now (c .before .before .before .before .before .before .before .before .before .before .before .before .before .before .before .before .before .before .before .before .before .before .before .args .out)) _ _ (judged (c .before .before .before .before .before)) _ _ (c .before .before .before .before .room .ensures) (c .before .before .before .late-number .ensures) (c .before .before .if1 .left)
+returns c = chain-refused _ _ _ _ _ _ (ended (c .before .before .before .before .before .before .before .before .before) (ap judged (c .before .r .given .1)))
 
 returns-2 : tie.Need-returns-2
-returns-2 c = chain-refused _ _ _ _ _ _ _ _ (ap (λ r. (compared r, slots (c .before .before .before .before .before .before .before .before .before))) (sym (c .before .asked .given .1)) ∙ c .before .before .before .before .before .before .before .before .before .compare .ensures)
-
-returns-3 : tie.Need-returns-3
-returns-3 c = let w = c .before .before .walk .ensures in
-    chain-done _ _ _ _ _ _ _ _ (judged (c .before .before .before .before .before .before .before .before)) _ _ (c .before .before .before .before .before .before .before .room .ensures) (c .before .before .before .before .before .before .late-number .ensures) (c .before .before .before .before .before .if1 .left) _ _ (w .0) (w .1)
+returns-2 c = chain-done _ _ _ _ _ _ (ended (c .before .before .before .before .before .before .before .before .before .before .before .before .before .before .before .before .before .before .before .before .before) (ap judged (c .before .before .before .before .before .before .before .before .before .before .before .before .before .enum-told .given .1))) (c .before .before .before .before .before .before .before .before .linking .ensures)
 
 pub chain-spec : {M : Type 1} → statement M
 chain-spec =
@@ -43,20 +42,13 @@ chain-spec =
     (λ c κs. search needs)
     (λ c. search needs)
     (λ c. search needs)
-    (λ c κs. search needs)
-    (λ c κs. search needs)
-    (λ c κs. search needs)
+    linking-requires
     (λ c. search needs)
     (λ c. search needs)
     (λ c. search needs)
     returns
-    walk-requires
-    (λ c. search needs)
-    (λ c. search needs)
-    (λ c. search needs)
-    returns-2
     (λ c. search needs)
     (λ c. search needs)
     (λ c. search needs)
     (λ c. search needs)
-    returns-3)
+    returns-2)

@@ -1,9 +1,8 @@
+-- The events are judged, and what is left is left to `comparison`.
 use mathlib.Core.Path.{ap, sym, _∙_}
-use denote.Ref.{now}
-use Rattle.course.specs.Said.{judged, work}
 use Rattle.paper.specs.Buffers.{Work}
-use Rattle.course.proofs.Passed.{Passed, strict-passed}
-use Rattle.order.proofs.Asked.{compare-refused, compare-none, rows-there, compare-done}
+use Rattle.course.specs.Said.{judged, work}
+use Rattle.order.proofs.Asked.{compare-refused, compare-done}
 use borrow.Author.Needs.{needs}
 use Rattle.order.proofs.compare.Statement.{statement}
 use Rattle.order.proofs.compare.Tie as tie
@@ -12,20 +11,11 @@ use Rattle.order.proofs.compare.Tie as tie
 abbrev slots : tie.After-strict → Work
 slots c = let t = c .strict .last in work (t .1 .1 .0) (t .1 .1 .1 .0) (t .1 .1 .1 .1 .0)
 
-passed : (c : tie.After-enum-told) → let a = c .before .before .before .before .before .before .before .before .before .before .before .before .before .before .before .before .args in Passed (a .n) (now (a .list)) (work (now (a .clocks)) (now (a .masks)) (now (a .values))) (slots (c .before .before .before .before .before .before .before .before))
-passed c = strict-passed _ _ _ _ _ (ap (λ r. (judged r, slots (c .before .before .before .before .before .before .before .before))) (sym (c .enum-told .given .1)) ∙ c .before .before .before .before .before .before .before .before .strict .ensures) .0
-
 returns : tie.Need-returns
-returns c = let r = c .before .before .before .before .before .before .refuse .ensures in compare-none _ _ _ _ _ _ (passed (c .before .before .before .before .before .before .before .before .before .before .before .before .before)) _ _ (c .before .before .before .before .before .before .before .before .before .before .if1 .taken) (r .0) (r .1)
-
-judge-requires : tie.Need-judge-requires
-judge-requires c κs = rows-there _ _ _ _ _ _ (passed (c .before .before .before .before)) (c .before .if1 .left)
+returns c = let s = c .before .before .before .before .before .before .before .before .before in compare-refused _ _ _ _ _ (ap (λ r. (judged r, slots s)) (sym (c .before .r .given .1)) ∙ s .strict .ensures)
 
 returns-2 : tie.Need-returns-2
-returns-2 c = compare-refused _ _ _ _ _ _ _ (ap (λ r. (judged r, slots (c .before .before .before .before .before .before .before .before .before))) (sym (c .before .course .given .1)) ∙ c .before .before .before .before .before .before .before .before .before .strict .ensures)
-
-returns-3 : tie.Need-returns-3
-returns-3 c = compare-done _ _ _ _ _ _ (passed (c .before .before .before .before .before)) _ (c .before .before .if1 .left) (c .judge .ensures)
+returns-2 c = let s = c .before .before .before .before .before .before .before .before .before .before .before .before .before .before .before .before .before .before in compare-done _ _ _ _ _ (ap (λ r. (judged r, slots s)) (sym (c .before .before .before .before .before .before .before .before .before .before .enum-told .given .1)) ∙ s .strict .ensures) (c .before .before .before .before .before .before .comparison .ensures)
 
 pub compare-spec : {M : Type 1} → statement M
 compare-spec =
@@ -39,12 +29,7 @@ compare-spec =
     (λ c. search needs)
     (λ c. search needs)
     returns
-    judge-requires
     (λ c. search needs)
     (λ c. search needs)
     (λ c. search needs)
-    returns-2
-    (λ c. search needs)
-    (λ c. search needs)
-    (λ c. search needs)
-    returns-3)
+    returns-2)
