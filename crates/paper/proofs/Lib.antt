@@ -23,6 +23,7 @@ pub mod Elsewhere
 pub mod StampSays
 pub mod Lent
 pub mod Settled
+pub mod EachNumber
 pub mod PupilA
 pub mod SavedA
 pub mod OneOutcome

@@ -1,0 +1,6 @@
+-- What the theorems of `proofs/` claim, so far as it is no definition of the paper's own.
+pub mod Samples
+pub mod Settled
+pub mod EachNumber
+pub mod PupilA
+pub mod SavedA
