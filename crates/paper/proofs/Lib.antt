@@ -24,6 +24,7 @@ pub mod StampSays
 pub mod Lent
 pub mod Settled
 pub mod EachNumber
+pub mod Exactly
 pub mod PupilA
 pub mod SavedA
 pub mod OneOutcome

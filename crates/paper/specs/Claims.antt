@@ -2,5 +2,6 @@
 pub mod Samples
 pub mod Settled
 pub mod EachNumber
+pub mod Exactly
 pub mod PupilA
 pub mod SavedA
