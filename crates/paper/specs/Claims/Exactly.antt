@@ -80,11 +80,7 @@ pub record Eighteen (b : List ℕ) (cs : List Clocked) (i : ℕ) : Type 0 where
   pub earlier : take (length (flatten (take i (pieces cs)))) (stamps-in b) ≡ flatten (take i (pieces cs))
   pub wrong : Recorded (drop (length (flatten (take i (pieces cs)))) (stamps-in b)) (getD (stamps cs) i no-stamp) → ⊥
 
--- The number of a refusal is one of these.
-abbrev pub Among : {A : Type 0} → List ℕ → Outcome A → Type 0
-Among ns o = (r : Refusal) → o ≡ refused r → member (r .number) ns ≡ true
-
--- What each call can give: of an offer, of a sheet, of a list lent directly.
+-- What can be given: to an offer, to a sheet, to a list lent directly.
 abbrev pub of-offer : List ℕ
 of-offer = 10 ∷ 11 ∷ 12 ∷ 13 ∷ 14 ∷ 15 ∷ 16 ∷ []
 
@@ -94,21 +90,32 @@ of-sheet = (1 ∷ 2 ∷ 3 ∷ 4 ∷ 5 ∷ 6 ∷ 7 ∷ 9 ∷ []) ++ (of-offer ++ 
 abbrev pub of-list : List ℕ
 of-list = (3 ∷ 4 ∷ 8 ∷ 9 ∷ []) ++ of-offer
 
-pub record NumbersGiven : Type 0 where
-  pub classed : (t : Terms) (list : List ℕ) (w : Work) (answered : List ℕ) → Among (3 ∷ 4 ∷ 8 ∷ 9 ∷ []) (class t list w answered .0 .0)
+-- P of the outcome of each call, with the numbers that the call can give.
+pub record Of-each-call (P : (A : Type 0) → List ℕ → Outcome A → Type 0) : Type 0 where
+  pub classed : (t : Terms) (list : List ℕ) (w : Work) (answered : List ℕ) → P _ (3 ∷ 4 ∷ 8 ∷ 9 ∷ []) (class t list w answered .0 .0)
   pub classed-lamport :
-      (t : Terms) (list : List ℕ) (w : Work) (answered numbers : List ℕ) → Among (3 ∷ 4 ∷ 8 ∷ 9 ∷ []) (class-lamport t list w answered numbers .0 .0)
-  pub judged : (t : Terms) (list : List ℕ) (w : Work) → Among of-list (strict t list w .0)
-  pub judged-lamport : (t : Terms) (list : List ℕ) (w : Work) (numbers : List ℕ) → Among of-list (strict-lamport t list w numbers .0 .0)
-  pub written : (t : Terms) (list : List ℕ) (w : Work) (out : List ℕ) → Among (of-list ++ (21 ∷ [])) (writing t list w out .0 .0)
-  pub compared : (t : Terms) (list : List ℕ) (w : Work) (a b : ℕ) → Among (of-list ++ (20 ∷ [])) (comparing t list w a b .0)
-  pub chained : (t : Terms) (list : List ℕ) (w : Work) (a b : ℕ) (out : List ℕ) → Among (of-list ++ (20 ∷ 21 ∷ 22 ∷ [])) (chaining t list w a b out .0 .0)
-  pub read : (b : List ℕ) (w : Work) → Among of-sheet (reading b w .0)
-  pub read-lamport : (b : List ℕ) (w : Work) (numbers : List ℕ) → Among of-sheet (reading-lamport b w numbers .0 .0)
-  pub compared-sheet : (b : List ℕ) (w : Work) (i j : ℕ) → Among (of-sheet ++ (20 ∷ [])) (comparing-sheet b w i j .0)
-  pub chained-sheet : (b : List ℕ) (w : Work) (i j : ℕ) (out : List ℕ) → Among (of-sheet ++ (20 ∷ 21 ∷ 22 ∷ [])) (chaining-sheet b w i j out .0 .0)
-  pub marked : (b lines : List ℕ) (w : Work) (out : List ℕ) → Among (of-sheet ++ (21 ∷ 30 ∷ [])) (marking b lines w out .0 .0)
-  pub tallied : (b : List ℕ) (w : Work) → Among of-sheet (tallying b w .0)
-  pub saved : (b : List ℕ) (w : Work) → Among of-sheet (savings b w .0)
-  pub stored : (b : List ℕ) (w : Work) (out : List Float) → Among (of-sheet ++ (21 ∷ [])) (storing b w out .0 .0)
-  pub ordered : (v w : List ℕ) → Among (4 ∷ []) (ordering v w)
+      (t : Terms) (list : List ℕ) (w : Work) (answered numbers : List ℕ) → P _ (3 ∷ 4 ∷ 8 ∷ 9 ∷ []) (class-lamport t list w answered numbers .0 .0)
+  pub judged : (t : Terms) (list : List ℕ) (w : Work) → P _ of-list (strict t list w .0)
+  pub judged-lamport : (t : Terms) (list : List ℕ) (w : Work) (numbers : List ℕ) → P _ of-list (strict-lamport t list w numbers .0 .0)
+  pub written : (t : Terms) (list : List ℕ) (w : Work) (out : List ℕ) → P _ (of-list ++ (21 ∷ [])) (writing t list w out .0 .0)
+  pub compared : (t : Terms) (list : List ℕ) (w : Work) (a b : ℕ) → P _ (of-list ++ (20 ∷ [])) (comparing t list w a b .0)
+  pub chained : (t : Terms) (list : List ℕ) (w : Work) (a b : ℕ) (out : List ℕ) → P _ (of-list ++ (20 ∷ 21 ∷ 22 ∷ [])) (chaining t list w a b out .0 .0)
+  pub read : (b : List ℕ) (w : Work) → P _ of-sheet (reading b w .0)
+  pub read-lamport : (b : List ℕ) (w : Work) (numbers : List ℕ) → P _ of-sheet (reading-lamport b w numbers .0 .0)
+  pub compared-sheet : (b : List ℕ) (w : Work) (i j : ℕ) → P _ (of-sheet ++ (20 ∷ [])) (comparing-sheet b w i j .0)
+  pub chained-sheet : (b : List ℕ) (w : Work) (i j : ℕ) (out : List ℕ) → P _ (of-sheet ++ (20 ∷ 21 ∷ 22 ∷ [])) (chaining-sheet b w i j out .0 .0)
+  pub marked : (b lines : List ℕ) (w : Work) (out : List ℕ) → P _ (of-sheet ++ (21 ∷ 30 ∷ [])) (marking b lines w out .0 .0)
+  pub tallied : (b : List ℕ) (w : Work) → P _ of-sheet (tallying b w .0)
+  pub saved : (b : List ℕ) (w : Work) → P _ of-sheet (savings b w .0)
+  pub stored : (b : List ℕ) (w : Work) (out : List Float) → P _ (of-sheet ++ (21 ∷ [])) (storing b w out .0 .0)
+  pub ordered : (v w : List ℕ) → P _ (4 ∷ []) (ordering v w)
+
+-- The number of a refusal is one of these; and it is never r.
+abbrev pub Among : {A : Type 0} → List ℕ → Outcome A → Type 0
+Among ns o = (r : Refusal) → o ≡ refused r → member (r .number) ns ≡ true
+
+abbrev pub NumbersGiven : Type 0
+NumbersGiven = Of-each-call (λ A ns o. Among ns o)
+
+abbrev pub Never : ℕ → Type 0
+Never x = Of-each-call (λ A ns o. (r : Refusal) → o ≡ refused r → r .number ≢ x)
