@@ -2,3 +2,4 @@
 pub mod Firsts
 pub mod Offers
 pub mod Numbers
+pub mod Chains

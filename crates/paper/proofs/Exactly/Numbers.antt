@@ -25,7 +25,7 @@ use Rattle.paper.proofs.Laws.Tables.{cond-cases}
 use borrow.Author.Tests.{eqb-true}
 
 -- 0, or one of these.
-abbrev Known : List ℕ → ℕ → Type 0
+abbrev pub Known : List ℕ → ℕ → Type 0
 Known ns x = member x (0 ∷ ns) ≡ true
 
 module _ (ns : List ℕ) where
@@ -58,7 +58,7 @@ module _ (ns : List ℕ) where
   lacking-known m [] h = none-known
   lacking-known m (slots ∷ more) h = first-known (ltb (length slots) m) 9 (lacking m more) h (lacking-known m more h)
 
-  nine-known : (t : Terms) (m : ℕ) (w : Work) (more : List (List ℕ)) → Known ns 9 → Known ns (nine t m w more)
+  pub nine-known : (t : Terms) (m : ℕ) (w : Work) (more : List (List ℕ)) → Known ns 9 → Known ns (nine t m w more)
   nine-known t m w more h = first-known (short (t .processes) m w) 9 (lacking m more) h (lacking-known m more h)
 
   module _ (o : Known ns 10 × Known ns 11 × Known ns 12 × Known ns 13 × Known ns 14 × Known ns 15 × Known ns 16) where
@@ -80,7 +80,7 @@ module _ (ns : List ℕ) where
         then-known (record { number = answer t s e; position = i }) (first-refused (suc i) (answers t (offered t s e) es)) (answer-in t s e)
         (events-in t es (offered t s e) (suc i))
 
-    strict-in : (t : Terms) (list : List ℕ) → Known ns (first-refused 0 (answers-of t list) .number)
+    pub strict-in : (t : Terms) (list : List ℕ) → Known ns (first-refused 0 (answers-of t list) .number)
     strict-in t list = events-in t (events-of list) (start t) 0
 
   stamps-in-order : Known ns 18 → Known ns 19 → (ts : List (List ℕ)) (i : ℕ) (b : List ℕ) → Known ns (stamps-refused i ts b .number)
@@ -90,7 +90,7 @@ module _ (ns : List ℕ) where
   stamps-in-order h k (u ∷ ts) i b =
       cond-cases (λ (r : Refusal). Known ns (r .number)) (begins u b) _ _ (λ e. stamps-in-order h k ts (suc i) (drop (length u) b)) (λ e. h)
 
-  list-known :
+  pub list-known :
       Known ns 3 × Known ns 4 × Known ns 8 × Known ns 9 → (t : Terms) (list : List ℕ) (w : Work) (more : List (List ℕ))
       → Known ns (list-checks t list (nine t (how-many list) w more))
   list-known h t list w more =
@@ -98,7 +98,7 @@ module _ (ns : List ℕ) where
       (first-known (wrong-count (t .processes)) 4 _ (h .1)
       (first-known (wrong-list list) 8 _ (h .2) (nine-known t (how-many list) w more (h .3))))
 
-  header-known :
+  pub header-known :
       Known ns 1 × Known ns 2 × Known ns 3 × Known ns 4 × Known ns 5 × Known ns 6 × Known ns 7 → (b : List ℕ) (k : ℕ) → Known ns k
       → Known ns (header-checks b k)
   unfolding header-checks
@@ -113,7 +113,7 @@ module _ (ns : List ℕ) where
       (h .6) i))))))
 
   -- The checks of a call on a list and on a sheet, and one more check behind them.
-  checks-known : (c : Checks) → Known ns (c .early) → Known ns (c .late .number) → Known ns (refusal-of c .number)
+  pub checks-known : (c : Checks) → Known ns (c .early) → Known ns (c .late .number) → Known ns (refusal-of c .number)
   checks-known c h i = then-known (of-call (c .early)) (c .late) h i
 
   also-known : (c : Checks) (k : ℕ) → Known ns (c .late .number) → Known ns k → Known ns ((c also of-call k) .late .number)
@@ -134,10 +134,10 @@ pub record List-known (ns : List ℕ) : Type 0 where
   pub offered : Offered ns
 
 module _ (ns : List ℕ) where
-  early-sheet : Sheet-known ns → (b : List ℕ) (w : Work) (more : List (List ℕ)) → Known ns (reading-checks b w more .early)
+  pub early-sheet : Sheet-known ns → (b : List ℕ) (w : Work) (more : List (List ℕ)) → Known ns (reading-checks b w more .early)
   early-sheet h b w more = header-known ns (h .header) b _ (nine-known ns (terms-in b) (how-many (list-in b)) w more (h .room))
 
-  late-sheet : Sheet-known ns → (b : List ℕ) (w : Work) (more : List (List ℕ)) → Known ns (reading-checks b w more .late .number)
+  pub late-sheet : Sheet-known ns → (b : List ℕ) (w : Work) (more : List (List ℕ)) → Known ns (reading-checks b w more .late .number)
   late-sheet h b w more =
       let t = terms-in b in
       let list = list-in b in
@@ -186,7 +186,7 @@ module _ (ns : List ℕ) where
         (checks-known ns _ (list-known ns (h .list) t list w []) (also-known ns d l (also-known ns c k (strict-in ns (h .offered) t list) i) j))
 
 -- The numbers of a sheet and of a list, with further ones behind.
-sheet-numbers : (more : List ℕ) → Sheet-known (of-sheet ++ more)
+pub sheet-numbers : (more : List ℕ) → Sheet-known (of-sheet ++ more)
 unfolding member
 sheet-numbers more =
     record {
@@ -196,7 +196,7 @@ sheet-numbers more =
       stamps = (refl, refl);
     }
 
-list-numbers : (more : List ℕ) → List-known (of-list ++ more)
+pub list-numbers : (more : List ℕ) → List-known (of-list ++ more)
 unfolding member
 list-numbers more = record { list = (refl, refl, refl, refl); offered = (refl, refl, refl, refl, refl, refl, refl) }
 

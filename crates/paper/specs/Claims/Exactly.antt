@@ -10,13 +10,13 @@ use Rattle.paper.specs.Buffers.{Work}
 use Rattle.paper.specs.Bytes.{two, four}
 use Rattle.paper.specs.Channel.{Sent, On-its-way, Older}
 use Rattle.paper.specs.Class.{class, class-lamport}
-use Rattle.paper.specs.Event.{Event, internal, send, receive}
+use Rattle.paper.specs.Event.{Event, internal, send, receive, how-many}
 use Rattle.paper.specs.Machine.{Clocked, member, accepted-of}
 use Rattle.paper.specs.Marking.{marking}
-use Rattle.paper.specs.Order.{event-of}
+use Rattle.paper.specs.Order.{event-of, Before}
 use Rattle.paper.specs.Questions.{strict, strict-lamport, writing, comparing, chaining, comparing-sheet, chaining-sheet, ordering}
 use Rattle.paper.specs.Reading.{reading, reading-lamport}
-use Rattle.paper.specs.Refusals.{Refusal, Outcome, refused}
+use Rattle.paper.specs.Refusals.{Refusal, Checks, refusal-of, Outcome, refused}
 use Rattle.paper.specs.Savings.{tallying, savings, storing}
 use Rattle.paper.specs.Sheet.{terms-in, list-in, stamps-in, pieces}
 use Rattle.paper.specs.Stamp.{Stamp, stamps, no-stamp}
@@ -79,6 +79,12 @@ pub record Eighteen (b : List ℕ) (cs : List Clocked) (i : ℕ) : Type 0 where
   pub sends : event-of cs i .kind ≡ send
   pub earlier : take (length (flatten (take i (pieces cs)))) (stamps-in b) ≡ flatten (take i (pieces cs))
   pub wrong : Recorded (drop (length (flatten (take i (pieces cs)))) (stamps-in b)) (getD (stamps cs) i no-stamp) → ⊥
+
+-- 22: the checks so far pass, both events are there, and the first is not before the second.
+pub record Twenty-two (c : Checks) (t : Terms) (list : List ℕ) (a b : ℕ) : Type 0 where
+  pub passed : refusal-of c .number ≡ 0
+  pub there : (a < how-many list) × (b < how-many list)
+  pub not-before : Before (accepted-of t list) a b → ⊥
 
 -- What can be given: to an offer, to a sheet, to a list lent directly.
 abbrev pub of-offer : List ℕ
