@@ -3,3 +3,4 @@ pub mod Firsts
 pub mod Offers
 pub mod Numbers
 pub mod Chains
+pub mod Stamps
