@@ -5,3 +5,4 @@ pub mod EachNumber
 pub mod Exactly
 pub mod PupilA
 pub mod SavedA
+pub mod Elsewhere

@@ -26,9 +26,10 @@ use Rattle.paper.specs.Terms.{Terms}
 use Rattle.paper.proofs.Exactly.Firsts.{is-refused, then-is}
 use Rattle.paper.proofs.Exactly.Numbers.{Known, nine-known, strict-in, header-known}
 use Rattle.paper.proofs.Laws.Runs.{length-events}
+use Rattle.paper.proofs.Laws.Slots.{length-stamps}
 use Rattle.paper.proofs.Laws.Tables.{cond-cases}
 use Rattle.paper.proofs.Laws.Tests.{also, and-both, and-true}
-use Rattle.paper.proofs.Lent.Stamps.{StampFits, stamps-fit, length-stamps}
+use Rattle.paper.proofs.Lent.Stamps.{StampFits, stamps-fit}
 use Rattle.paper.proofs.ReadExactly.{early-says}
 use Rattle.paper.proofs.Sheets.Header.{Header}
 use Rattle.paper.proofs.Sheets.Parts.{begins-says, begins-self, list-says}
