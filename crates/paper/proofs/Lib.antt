@@ -22,6 +22,7 @@ pub mod RoundTrip
 pub mod Elsewhere
 pub mod StampSays
 pub mod Lent
+pub mod LentSlots
 pub mod Settled
 pub mod EachNumber
 pub mod Exactly

@@ -6,3 +6,4 @@ pub mod Exactly
 pub mod PupilA
 pub mod SavedA
 pub mod Elsewhere
+pub mod Slots
