@@ -8,6 +8,7 @@ pub mod LeftOut
 pub mod Fifo
 pub mod Causality
 pub mod LamportBelow
+pub mod LamportRule
 pub mod MergeFirst
 pub mod Verdicts
 pub mod SameExactly

@@ -7,3 +7,4 @@ pub mod PupilA
 pub mod SavedA
 pub mod Elsewhere
 pub mod Slots
+pub mod LamportRule
