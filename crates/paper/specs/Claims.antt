@@ -8,3 +8,4 @@ pub mod SavedA
 pub mod Elsewhere
 pub mod Slots
 pub mod LamportRule
+pub mod LeftOut
