@@ -9,3 +9,11 @@ pub mod Elsewhere
 pub mod Slots
 pub mod LamportRule
 pub mod LeftOut
+pub mod Agrees
+pub mod Verdicts
+pub mod Fits
+pub mod Ones
+pub mod Table
+pub mod Chain
+pub mod Marked
+pub mod Saved

@@ -249,6 +249,6 @@ module _ (b : List ℕ) (w : Work) where
               let (e, a, s) = h in (
                 e,
                 then-is (first-refused 0 (answers-of t list)) (stamps-refused 0 ts (stamps-in b)) it events-18 (λ q. omega arith) .1
-                (list-says t list .1 a, stamp-here (early-says b w [] .0 e .0) .1 s),
+                    (list-says t list .1 a, stamp-here (early-says b w [] .0 e .0) .1 s),
               ),
         ))
