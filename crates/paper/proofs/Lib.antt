@@ -17,6 +17,7 @@ pub mod SavedRight
 pub mod NearestRight
 pub mod ChainRight
 pub mod ChainRoom
+pub mod Teaching
 pub mod Sheets
 pub mod ReadExactly
 pub mod RoundTrip
