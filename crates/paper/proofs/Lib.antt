@@ -25,6 +25,7 @@ pub mod Elsewhere
 pub mod StampSays
 pub mod Lent
 pub mod LentSlots
+pub mod DecimalRight
 pub mod Settled
 pub mod EachNumber
 pub mod Exactly

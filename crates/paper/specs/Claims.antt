@@ -17,3 +17,4 @@ pub mod Table
 pub mod Chain
 pub mod Marked
 pub mod Saved
+pub mod Decimal
