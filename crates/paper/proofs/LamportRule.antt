@@ -1,6 +1,6 @@
 -- `lamport-rule`: LC1 and LC2 over the positions of a run. What a process and a message have before a position is the number of the latest event of
 -- the one and of the send of the other.
-use Prim.Native.Nat.{ℕ, zero, suc, _+_, max, _≤_, _<_}
+use Prim.Native.Nat.{ℕ, zero, suc, _+_, max, _<_}
 use native.Mathlib.Decide.{ℕ-discrete}
 use native.Mathlib.Nat.{eq-or-lt-of-le, le-of-suc-le-suc}
 use native.Mathlib.Omega.{arith}

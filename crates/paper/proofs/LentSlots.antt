@@ -6,14 +6,12 @@ use native.Mathlib.Nat.{mul-le-mul-left}
 use native.Mathlib.Omega.{arith}
 use mathlib.Core.Path.{_≡_, refl, sym, ap, _∙_}
 use mathlib.Core.Logic.{_≢_}
-use mathlib.Core.Bool.{Bool, true, false}
-use mathlib.Core.List.{List, [], _∷_, _++_, flatMap, append-assoc}
-use lib.Ieee.{Float}
-use lib.ListN.{length, getD, take, drop, replicate, length-append, length-replicate, length-take, List·getD-append, getD-replicate}
+use mathlib.Core.List.{List, [], _∷_, _++_, flatMap}
+use lib.ListN.{length, getD, drop, replicate, length-append, length-replicate, length-take, List·getD-append, getD-replicate}
 use lib.Seq.{getD-append-add, getD-drop}
 use Rattle.paper.specs.Buffers.{Work, laid, clock-slots, mask-slots, value-slots, filled, cleared, work-left}
 use Rattle.paper.specs.Chain.{chain}
-use Rattle.paper.specs.Claims.Slots.{Held, Slots, Output, WorkSlots, Figure, LentSlots}
+use Rattle.paper.specs.Claims.Slots.{Held, Slots, Output, WorkSlots, LentSlots}
 use Rattle.paper.specs.Class.{class-checks, class, class-lamport}
 use Rattle.paper.specs.Clock.{most-processes, most-events}
 use Rattle.paper.specs.Event.{how-many, events-of}

@@ -21,7 +21,7 @@ use Rattle.paper.specs.Order.{event-of}
 use Rattle.paper.specs.Reading.{reading-checks}
 use Rattle.paper.specs.Refusals.{first, of-call, refusal-of, Outcome, done}
 use Rattle.paper.specs.Running.{fresh-records}
-use Rattle.paper.specs.Savings.{sends, Counts, counts, whole, nearest, Saving, no-messages, percent, saving, savings, stored, storing-checks, storing}
+use Rattle.paper.specs.Savings.{sends, counts, nearest, Saving, no-messages, percent, saving, savings, stored, storing-checks, storing}
 use Rattle.paper.specs.Sheet.{processes-in, terms-in, list-in}
 use Rattle.paper.specs.Stamp.{Stamp, count, no-stamp, never-sent, previous, stamp-of, stamps-after}
 use Rattle.paper.specs.Terms.{Terms}
@@ -34,7 +34,7 @@ use Rattle.paper.proofs.Laws.Runs.{clocked-few, length-events}
 use Rattle.paper.proofs.Laws.Tables.{cond-cases}
 use Rattle.paper.proofs.Laws.Tests.{also}
 use Rattle.paper.proofs.Lent.Stamps.{stamps-fit}
-use Rattle.paper.proofs.NearestRight.{Nearest-to, nearest-right}
+use Rattle.paper.proofs.NearestRight.{nearest-right}
 use Rattle.paper.proofs.ReadExactly.{reading-number}
 use Rattle.paper.proofs.Sheets.Checks.{not-below, last, both, by-place, placed, is-done}
 use Rattle.paper.proofs.TotalRight.{counted, one-number}

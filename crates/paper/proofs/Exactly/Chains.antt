@@ -3,11 +3,11 @@ use Prim.Native.Nat.{ℕ, _≤_, _<_}
 use native.Mathlib.Omega.{arith}
 use mathlib.Core.Path.{_≡_, refl, sym, ap, _∙_}
 use mathlib.Core.Logic.{_↔_, _≢_}
-use mathlib.Core.Bool.{Bool, true, false, cond, _||_, not, false≢true}
-use mathlib.Core.List.{List, [], _∷_, _++_}
+use mathlib.Core.Bool.{Bool, true, false, _||_, not, false≢true}
+use mathlib.Core.List.{List, [], _∷_}
 use lib.Dec.{eqb, ltb}
 use lib.ListN.{length}
-use borrow.Author.Tests.{eqb-true, eqb-false, eq-eqb, ne-eqb, not-true, not-false}
+use borrow.Author.Tests.{eqb-false, ne-eqb, not-true}
 use Rattle.paper.specs.Buffers.{Work}
 use Rattle.paper.specs.Chain.{chain}
 use Rattle.paper.specs.Claims.Exactly.{of-list, of-sheet, Twenty-two}
@@ -27,7 +27,7 @@ use Rattle.paper.proofs.Laws.Tables.{cond-cases}
 use Rattle.paper.proofs.Laws.Tests.{also}
 use Rattle.paper.proofs.ReadExactly.{reading-number}
 use Rattle.paper.proofs.RoundTrip.{list-accepted}
-use Rattle.paper.proofs.Sheets.Checks.{below, equal, neither, last, both}
+use Rattle.paper.proofs.Sheets.Checks.{below, neither, last, both}
 use Rattle.paper.proofs.Verdicts.{verdict-right}
 
 carry : {P Q R S : Type 0} → P ↔ R → Q ↔ S → (P × Q) ↔ (R × S)

@@ -5,8 +5,8 @@ use mathlib.Core.Logic.{_↔_, _≢_}
 use mathlib.Core.Bool.{Bool, true, false, cond, false≢true}
 use native.Mathlib.Omega.{arith}
 use lib.Dec.{eqb}
-use borrow.Author.Tests.{eqb-true, eqb-false, eq-eqb, ne-eqb}
-use Rattle.paper.specs.Refusals.{first, Refusal, of-call, _then_, Checks, refusal-of, _also_, Outcome, refused, done, outcome}
+use borrow.Author.Tests.{eqb-true, eqb-false}
+use Rattle.paper.specs.Refusals.{first, Refusal, of-call, _then_, Checks, refusal-of, _also_, refused, done, outcome}
 
 -- It is this check.
 pub this : {P : Type 0} (t : Bool) (r k : ℕ) → k ≢ r → (t ≡ true) ↔ P → (first t r k ≡ r) ↔ P

@@ -8,21 +8,20 @@ use mathlib.Core.List.{List, [], _∷_, _++_}
 use lib.Dec.{eqb, ltb, leb}
 use lib.ListN.{length, drop}
 use Rattle.paper.specs.Buffers.{Work, short, lacking, nine}
-use Rattle.paper.specs.Claims.Exactly.{of-offer, of-sheet, of-list, Of-each-call, Among, NumbersGiven, Never}
+use Rattle.paper.specs.Claims.Exactly.{of-sheet, of-list, Among, NumbersGiven, Never}
 use Rattle.paper.specs.Bytes.{byte}
 use Rattle.paper.specs.Class.{wrong-list, list-checks, class-checks, class, class-lamport}
 use Rattle.paper.specs.Event.{Event, is-send, is-receive, events-of, how-many}
 use Rattle.paper.specs.Machine.{State, start, waiting, member, in-queue, in-front, wrong-peer, wrong-number, shape, answer, offered, answers, answers-of, accepted-of}
-use Rattle.paper.specs.Marking.{line-count, wrong-lines, marking-checks, marking}
+use Rattle.paper.specs.Marking.{line-count, wrong-lines, marking}
 use Rattle.paper.specs.Order.{verdict}
-use Rattle.paper.specs.Questions.{strict-checks, strict, strict-lamport, writing-checks, writing, judged, asked, comparing, chain-slots, chained, chaining, comparing-sheet, chaining-sheet, ordering}
+use Rattle.paper.specs.Questions.{strict-checks, strict, strict-lamport, writing, judged, comparing, chain-slots, chained, chaining, comparing-sheet, chaining-sheet, ordering}
 use Rattle.paper.specs.Reading.{outside, shared, header-checks, first-refused, begins, stamps-refused, reading-checks, reading, reading-lamport}
 use Rattle.paper.specs.Refusals.{first, Refusal, of-call, _then_, Checks, refusal-of, _also_, Outcome, refused, done, outcome}
-use Rattle.paper.specs.Savings.{tallying, savings, storing-checks, storing}
+use Rattle.paper.specs.Savings.{tallying, savings, storing}
 use Rattle.paper.specs.Sheet.{processes-in, terms-in, list-offset, list-size, stamps-offset, stamps-size, list-in, stamps-in, pieces, written}
 use Rattle.paper.specs.Terms.{Terms, wrong-version, wrong-count}
 use Rattle.paper.proofs.Laws.Tables.{cond-cases}
-use borrow.Author.Tests.{eqb-true}
 
 -- 0, or one of these.
 abbrev pub Known : List ℕ → ℕ → Type 0

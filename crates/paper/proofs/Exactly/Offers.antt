@@ -1,17 +1,15 @@
 -- `ten` to `sixteen`: what an offer is answered, over the accepted events alone; `answer-known`: no answer is outside 0 and 10 to 16.
 use Prim.Native.Nat.{ℕ, _≤_, _<_}
 use native.Mathlib.Omega.{arith}
-use mathlib.Core.Path.{_≡_, refl, sym, _∙_}
+use mathlib.Core.Path.{_≡_, refl, sym}
 use mathlib.Core.Logic.{_⊎_, inl, inr, _↔_, _≢_}
 use mathlib.Core.Bool.{Bool, true, false, cond, not, _&&_, _||_, false≢true}
 use mathlib.Core.List.{List}
 use lib.Dec.{eqb, ltb, leb}
-use lib.ListN.{length}
 use borrow.Author.Tests.{leb-true, eqb-true, eqb-false, eq-eqb, ne-eqb, le-leb, not-true, not-false}
-use Rattle.paper.specs.Channel.{Sent, On-its-way}
 use Rattle.paper.specs.Claims.Exactly.{Right-kind, Right-process, Right-peer, Right-number, Right-shape, Fourteen, Fifteen, Sixteen}
 use Rattle.paper.specs.Event.{Event, internal, send, receive, is-internal, is-send, is-receive}
-use Rattle.paper.specs.Machine.{State, Clocked, start, waiting, member, in-queue, in-front, wrong-peer, wrong-number, shape, answer, run, clocked}
+use Rattle.paper.specs.Machine.{State, start, waiting, member, in-queue, in-front, wrong-peer, wrong-number, shape, answer, run, clocked}
 use Rattle.paper.specs.Refusals.{first}
 use Rattle.paper.specs.Terms.{Terms}
 use Rattle.paper.proofs.Exactly.Firsts.{this, later, neither, fails}

@@ -5,9 +5,9 @@ use native.Mathlib.Nat.{add-zero, zero-add, lt-of-lt-of-le}
 use native.Mathlib.Omega.{arith}
 use mathlib.Core.Path.{_≡_, refl, sym, ap, _∙_}
 use mathlib.Core.Logic.{_↔_, _≢_}
-use mathlib.Core.Bool.{Bool, true, false, cond, _&&_, false≢true}
+use mathlib.Core.Bool.{Bool, true, false, cond, false≢true}
 use mathlib.Core.List.{List, [], _∷_, _++_, zipWith, flatten}
-use lib.ListN.{length, getD, take, drop, length-append, length-take, length-drop, take-append-drop, List·getD-eq-default}
+use lib.ListN.{length, getD, take, drop, length-append, length-take, take-append-drop, List·getD-eq-default}
 use lib.Pow.{pow-mono}
 use lib.Seq.{getD-take, drop-drop, take-append-seam}
 use borrow.Author.Tests.{eqb-true, eq-eqb}
@@ -19,7 +19,7 @@ use Rattle.paper.specs.Event.{send, is-send, events-of, how-many}
 use Rattle.paper.specs.Machine.{Clocked, member, answers-of, accepted-of, All-accepted}
 use Rattle.paper.specs.Order.{nothing, event-of}
 use Rattle.paper.specs.Reading.{first-refused, begins, stamps-refused, reading-checks, read-of, reading}
-use Rattle.paper.specs.Refusals.{Refusal, of-call, _then_, refusal-of, refused}
+use Rattle.paper.specs.Refusals.{Refusal, of-call, refusal-of, refused}
 use Rattle.paper.specs.Sheet.{terms-in, list-offset, list-size, stamps-offset, stamps-size, list-in, stamps-in, stamp-bytes, piece, pieces}
 use Rattle.paper.specs.Stamp.{Stamp, stamps, no-stamp, never-sent}
 use Rattle.paper.specs.Terms.{Terms}
@@ -28,7 +28,7 @@ use Rattle.paper.proofs.Exactly.Numbers.{Known, nine-known, strict-in, 
 use Rattle.paper.proofs.Laws.Runs.{length-events}
 use Rattle.paper.proofs.Laws.Slots.{length-stamps}
 use Rattle.paper.proofs.Laws.Tables.{cond-cases}
-use Rattle.paper.proofs.Laws.Tests.{also, and-both, and-true}
+use Rattle.paper.proofs.Laws.Tests.{also, and-both}
 use Rattle.paper.proofs.Lent.Stamps.{StampFits, stamps-fit}
 use Rattle.paper.proofs.ReadExactly.{early-says}
 use Rattle.paper.proofs.Sheets.Header.{Header}

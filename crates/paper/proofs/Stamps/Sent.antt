@@ -1,7 +1,7 @@
 -- A stamp on its way is the one that stands beside its sending event, among the stamps of all accepted events.
 use Prim.Native.Nat.{ℕ, _≤_, _<_}
 use native.Mathlib.Omega.{arith}
-use mathlib.Core.Path.{_≡_, refl, sym, ap, ap₂, _∙_}
+use mathlib.Core.Path.{_≡_, refl, sym, ap, _∙_}
 use mathlib.Core.Bool.{Bool, true, false, cond, false≢true}
 use mathlib.Core.List.{List, [], _∷_, _++_, append-nil, append-assoc}
 use lib.Dec.{eqb}
@@ -9,14 +9,14 @@ use lib.ListN.{length, getD, List·getD-append}
 use lib.Seq.{getD-append-seam}
 use borrow.Author.Tests.{eqb-true}
 use Rattle.paper.specs.Clock.{Clock}
-use Rattle.paper.specs.Event.{Event, send, receive}
+use Rattle.paper.specs.Event.{Event, send}
 use Rattle.paper.specs.Machine.{State, Message, Clocked, start, waiting, in-front, rest, answer, accepted, event-clock, offered, run, clocked}
 use Rattle.paper.specs.Order.{event-of}
 use Rattle.paper.specs.Running.{Records, fresh-records, front-stamp, recorded, record-stamp, records}
 use Rattle.paper.specs.Stamp.{Stamp, no-stamp, never-sent, previous, previously, stamp-of, stamps-after, stamps}
 use Rattle.paper.specs.Terms.{Terms}
 use Rattle.paper.proofs.Laws.Judged.{judged}
-use Rattle.paper.proofs.Laws.Moves.{clock-other, accepted-internal, accepted-send, accepted-receive, recorded-internal, recorded-send, recorded-receive}
+use Rattle.paper.proofs.Laws.Moves.{accepted-internal, accepted-send, accepted-receive, recorded-internal, recorded-send, recorded-receive}
 use Rattle.paper.proofs.Laws.Places.{old, new, longer}
 use Rattle.paper.proofs.Laws.Slots.{length-stamps}
 use Rattle.paper.proofs.Laws.Tables.{at₂-cases₃}

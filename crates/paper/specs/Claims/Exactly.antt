@@ -18,7 +18,7 @@ use Rattle.paper.specs.Questions.{strict, strict-lamport, writing, compa
 use Rattle.paper.specs.Reading.{reading, reading-lamport}
 use Rattle.paper.specs.Refusals.{Refusal, Checks, refusal-of, Outcome, refused}
 use Rattle.paper.specs.Savings.{tallying, savings, storing}
-use Rattle.paper.specs.Sheet.{terms-in, list-in, stamps-in, pieces}
+use Rattle.paper.specs.Sheet.{stamps-in, pieces}
 use Rattle.paper.specs.Stamp.{Stamp, stamps, no-stamp}
 use Rattle.paper.specs.Terms.{Terms}
 

@@ -3,7 +3,7 @@ use Prim.Native.Nat.{ℕ, _+_, max, _<_}
 use mathlib.Core.Path.{_≡_}
 use mathlib.Core.Logic.{_≢_}
 use mathlib.Core.List.{List}
-use lib.ListN.{length, getD}
+use lib.ListN.{getD}
 use Rattle.paper.specs.Event.{receive}
 use Rattle.paper.specs.Lamport.{lamports}
 use Rattle.paper.specs.Machine.{Clocked}
