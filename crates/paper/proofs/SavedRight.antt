@@ -236,5 +236,6 @@ module _ (b : List ℕ) (w : Work) where
       let (early, late) = placed c .0 z in
       let (read, room) = storing-number out .0 z in (
         subst (Rightly-saved n accepted) same (rightly read),
-        rw (after-done c (stored (saving (counts n accepted)) out) out out early late) (subst (λ (x : Saving). Rightly-stored x out (stored (saving (counts n accepted)) out)) same (stands (saving (counts n accepted)) out room)),
+        rw (after-done c (stored (saving (counts n accepted)) out) out out early late)
+            (subst (λ (x : Saving). Rightly-stored x out (stored (saving (counts n accepted)) out)) same (stands (saving (counts n accepted)) out room)),
       )
