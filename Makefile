@@ -4,28 +4,36 @@
 # make bench             both timed on the same inputs in one run; the listing program against cat; receives and whole sheets against the
 #                        library of an earlier commit (built once, proofs and all) and a merge that looks at everything, in time and in
 #                        instructions (valgrind)
+# What takes long says on standard error what it does and how far it is.
 CASES ?= 100000
 BEFORE_COMMIT = 4c18f5e
 BEFORE = target/before/liboboefinch.so
+CARGO_RUN = cd rust && cargo run --release --offline --quiet --bin
 .PHONY: list test soak bench
 
 list:
-	@rt check listing >/dev/null && target/bin/listing < "$(SHEET)"
+	@tools/proving check listing
+	@target/bin/listing < "$(SHEET)"
 
 test:
 	.ci/run
 
 soak:
-	@rt staticlib oboefinch >/dev/null && mkdir -p box/found && cd rust && cargo run --release --offline --quiet --bin soak -- $(CASES) ../box/found
+	@tools/proving staticlib oboefinch
+	@mkdir -p box/found
+	@$(CARGO_RUN) soak -- $(CASES) ../box/found
 
 bench: $(BEFORE)
-	@rt staticlib oboefinch >/dev/null && cd rust && cargo run --release --offline --quiet --bin bench
-	@rt check listing >/dev/null && cd rust && cargo run --release --offline --quiet --bin programs -- ../target/bin/listing ../box/listing/sheet_a.in
-	@cd rust && cargo run --release --offline --quiet --bin receives -- ../$(BEFORE)
-	@cd rust && cargo run --release --offline --quiet --bin receives -- ../$(BEFORE) instructions
+	@tools/proving staticlib oboefinch
+	@tools/proving check listing
+	@$(CARGO_RUN) bench
+	@$(CARGO_RUN) programs -- ../target/bin/listing ../box/listing/sheet_a.in
+	@$(CARGO_RUN) receives -- ../$(BEFORE)
+	@$(CARGO_RUN) receives -- ../$(BEFORE) instructions
 
 # The library as it was before request 4.
 $(BEFORE):
-	@mkdir -p $(@D)/tree && git archive $(BEFORE_COMMIT) | tar -x -C $(@D)/tree
-	@cd $(@D)/tree && rt staticlib oboefinch >/dev/null
+	@echo "bench: the library of commit $(BEFORE_COMMIT) is proved and built once, for comparison" >&2
+	@mkdir -p $(@D)/tree && git archive $(BEFORE_COMMIT) | tar -x -C $(@D)/tree && mkdir -p $(@D)/tree/tools && cp tools/proving $(@D)/tree/tools
+	@$(@D)/tree/tools/proving staticlib oboefinch
 	@cc -shared -o $@ -Wl,--whole-archive $(@D)/tree/target/staticlib/liboboefinch.a -Wl,--no-whole-archive

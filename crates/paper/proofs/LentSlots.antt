@@ -11,7 +11,7 @@ use lib.ListN.{length, getD, drop, replicate, length-append, length-replicate, l
 use lib.Seq.{getD-append-add, getD-drop}
 use Rattle.paper.specs.Buffers.{Work, laid, clock-slots, mask-slots, value-slots, filled, cleared, work-left}
 use Rattle.paper.specs.Chain.{chain}
-use Rattle.paper.specs.Claims.Slots.{Held, Slots, Output, WorkSlots, LentSlots}
+use Rattle.paper.specs.Claims.Slots.{Slot-by-slot, Slots, Output, WorkSlots, LentSlots}
 use Rattle.paper.specs.Class.{class-checks, class, class-lamport}
 use Rattle.paper.specs.Clock.{most-processes, most-events}
 use Rattle.paper.specs.Event.{how-many, events-of}
@@ -43,7 +43,7 @@ behind xs ys n k h l =
     let q : length xs + (k - n) ≡ k = omega arith in
     ap (λ i. getD (xs ++ ys) i 0) (sym q) ∙ getD-append-add xs ys (k - n) 0
 
-laid-held : (named : ℕ) (xs old : List ℕ) → length xs ≤ named → Held named xs old (laid named xs old)
+laid-held : (named : ℕ) (xs old : List ℕ) → length xs ≤ named → Slot-by-slot named xs old (laid named xs old)
 unfolding laid
 laid-held named xs old fits =
     let zeros : List ℕ = replicate (named - length xs) 0 in

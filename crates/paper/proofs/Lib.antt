@@ -3,6 +3,7 @@ pub mod Sizes
 pub mod Ones
 pub mod Stamps
 pub mod Agreement
+pub mod Also
 pub mod Sufficiency
 pub mod LeftOut
 pub mod Fifo
@@ -31,4 +32,7 @@ pub mod EachNumber
 pub mod Exactly
 pub mod PupilA
 pub mod SavedA
+pub mod Stands
+pub mod Ample
+pub mod NeverShort
 pub mod OneOutcome

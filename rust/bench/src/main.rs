@@ -18,7 +18,10 @@ fn main() {
     println!();
     println!("| call | shape | events | processes | library | second | tuned | wide | floor | library / tuned |");
     println!("|---|---|---:|---:|---:|---:|---:|---:|---:|---:|");
-    for row in tasks::rows() {
+    let rows = tasks::rows();
+    let many = rows.len();
+    for (place, row) in rows.into_iter().enumerate() {
+        eprintln!("row {} of {many}", place + 1);
         print_row(row);
     }
 }

@@ -21,7 +21,7 @@ use Rattle.paper.specs.Stamp.{stamps}
 use Rattle.paper.specs.Terms.{Terms}
 
 -- Slot by slot, of `named` named ones: xs, then 0 in the named slots not used, then what was there.
-pub record Held (named : ℕ) (xs old new : List ℕ) : Type 0 where
+pub record Slot-by-slot (named : ℕ) (xs old new : List ℕ) : Type 0 where
   pub content : (k : ℕ) → k < length xs → getD new k 0 ≡ getD xs k 0
   pub unused : (k : ℕ) → length xs ≤ k → k < named → getD new k 0 ≡ 0
   pub beyond : (k : ℕ) → named ≤ k → getD new k 0 ≡ getD old k 0
@@ -29,13 +29,13 @@ pub record Held (named : ℕ) (xs old new : List ℕ) : Type 0 where
 -- A work buffer after a call with the checks c: up to and including check 9 a refusal writes nothing; a later one sets the named slots to 0.
 pub record Slots (c : Checks) (named : ℕ) (xs old new : List ℕ) : Type 0 where
   pub untouched : c .early ≢ 0 → new ≡ old
-  pub cleared : c .early ≡ 0 → c .late .number ≢ 0 → Held named [] old new
-  pub filled : c .early ≡ 0 → c .late .number ≡ 0 → Held named xs old new
+  pub cleared : c .early ≡ 0 → c .late .number ≢ 0 → Slot-by-slot named [] old new
+  pub filled : c .early ≡ 0 → c .late .number ≡ 0 → Slot-by-slot named xs old new
 
 -- An output: a refusal leaves it untouched, as is output beyond what is written.
 pub record Output (c : Checks) (xs old new : List ℕ) : Type 0 where
   pub untouched : refusal-of c .number ≢ 0 → new ≡ old
-  pub filled : refusal-of c .number ≡ 0 → Held (length xs) xs old new
+  pub filled : refusal-of c .number ≡ 0 → Slot-by-slot (length xs) xs old new
 
 -- The three work buffers: on success the clocks of accepted events, their masks, and the carried values.
 pub record WorkSlots (c : Checks) (t : Terms) (list : List ℕ) (old new : Work) : Type 0 where

@@ -8,7 +8,8 @@ use cases::case_of;
 use cases::random::seed_of_case;
 use compare::{report, run};
 
-const CASES_BETWEEN_LINES: u64 = 250_000;
+/// How often it is said how far it is.
+const LINES: u64 = 20;
 
 struct Wanted {
     cases: u64,
@@ -22,13 +23,14 @@ fn main() -> ExitCode {
         return ExitCode::from(2);
     };
     println!("seed {}", wanted.seed);
+    let between = (wanted.cases / LINES).max(1);
     for index in 0..wanted.cases {
         if !agrees(&wanted, index) {
             return ExitCode::FAILURE;
         }
         let done = index + 1;
-        if done.is_multiple_of(CASES_BETWEEN_LINES) && done != wanted.cases {
-            println!("{done} cases so far");
+        if done.is_multiple_of(between) && done != wanted.cases {
+            eprintln!("{done} of {} cases so far", wanted.cases);
         }
     }
     println!("{} cases, 0 differences", wanted.cases);
