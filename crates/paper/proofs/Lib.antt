@@ -4,6 +4,7 @@ pub mod Ones
 pub mod Stamps
 pub mod Agreement
 pub mod Also
+pub mod AsInReading
 pub mod Sufficiency
 pub mod LeftOut
 pub mod Fifo

@@ -18,3 +18,4 @@ pub mod Chain
 pub mod Marked
 pub mod Saved
 pub mod Decimal
+pub mod AsInReading
