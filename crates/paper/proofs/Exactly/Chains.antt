@@ -1,4 +1,5 @@
--- `twenty-two`: a chain is refused with 22 exactly when the checks before it pass, both events are there, and the first is not before the second.
+-- `twenty`: two events are not compared, with 20, exactly when the checks before it pass and one of them is not there. `twenty-two`: a chain is refused with 22
+-- exactly when the checks before it pass, both events are there, and the first is not before the second.
 use Prim.Native.Nat.{ℕ, _≤_, _<_}
 use native.Mathlib.Omega.{arith}
 use mathlib.Core.Path.{_≡_, refl, sym, ap, _∙_}
@@ -10,17 +11,17 @@ use lib.ListN.{length}
 use borrow.Author.Tests.{eqb-false, ne-eqb, not-true}
 use Rattle.paper.specs.Buffers.{Work}
 use Rattle.paper.specs.Chain.{chain}
-use Rattle.paper.specs.Claims.Exactly.{of-list, of-sheet, Twenty-two}
+use Rattle.paper.specs.Claims.Exactly.{of-list, of-sheet, Twenty, Twenty-two}
 use Rattle.paper.specs.Clock.{most-processes}
 use Rattle.paper.specs.Event.{how-many, events-of}
 use Rattle.paper.specs.Machine.{member, accepted-of, All-accepted}
 use Rattle.paper.specs.Order.{Before}
-use Rattle.paper.specs.Questions.{strict-checks, judged, asked, chain-slots, chained, chaining, chaining-sheet}
+use Rattle.paper.specs.Questions.{strict-checks, judged, asked, comparing, comparing-sheet, chain-slots, chained, chaining, chaining-sheet}
 use Rattle.paper.specs.Reading.{reading-checks}
 use Rattle.paper.specs.Refusals.{first, Refusal, of-call, _then_, Checks, refusal-of, refused}
 use Rattle.paper.specs.Sheet.{terms-in, list-in}
 use Rattle.paper.specs.Terms.{Terms}
-use Rattle.paper.proofs.Exactly.Firsts.{this, neither as not-one, is-refused, then-is, also-behind}
+use Rattle.paper.proofs.Exactly.Firsts.{this, neither as not-one, fails, is-refused, then-is, also-behind}
 use Rattle.paper.proofs.Exactly.Numbers.{Known, list-known, strict-in, early-sheet, late-sheet, list-numbers, sheet-numbers, checks-known}
 use Rattle.paper.proofs.Laws.Runs.{all-accepted}
 use Rattle.paper.proofs.Laws.Tables.{cond-cases}
@@ -32,6 +33,24 @@ use Rattle.paper.proofs.Verdicts.{verdict-right}
 
 carry : {P Q R S : Type 0} → P ↔ R → Q ↔ S → (P × Q) ↔ (R × S)
 carry p q = (λ h. (p .0 (h .0), q .0 (h .1)), λ h. (p .1 (h .0), q .1 (h .1)))
+
+-- Of any checks that never give 20.
+module _ (c : Checks) (list : List ℕ) (a b : ℕ) (other : refusal-of c .number ≢ 20) where
+  abbrev missing : Bool
+  missing = not (ltb a (how-many list)) || not (ltb b (how-many list))
+
+  twenty-of : (refusal-of (asked c list a b) ≡ of-call 20) ↔ Twenty c list a b
+  twenty-of =
+      also
+      (rw (also-behind c (of-call (first missing 20 0)))
+      (then-is (refusal-of c) (of-call (first missing 20 0)) (of-call 20) other (λ q. omega arith)))
+      (also
+      (carry (λ h. h, λ h. h)
+      (also (λ q. ap (λ (r : Refusal). r .number) q, λ q. ap of-call q)
+      (this missing 20 0 (λ q. omega arith)
+      (fails missing
+      (neither (not (ltb a (how-many list))) (not (ltb b (how-many list))) (below a (how-many list)) (below b (how-many list)))))))
+      (λ h. record { passed = h .0; not-there = h .1 }, λ h. (h .passed, h .not-there)))
 
 -- Of any checks that never give 22, and that let a list pass only where its events are accepted.
 module _ (c : Checks) (t : Terms) (list : List ℕ) (a b : ℕ) (out : List ℕ) (other : refusal-of c .number ≢ 22)
@@ -93,8 +112,36 @@ module _ (c : Checks) (t : Terms) (list : List ℕ) (a b : ℕ) (out : List ℕ)
         ))
 
 -- Of a list lent directly, and of a sheet.
-not-22 : (ns : List ℕ) → member 22 (0 ∷ ns) ≡ false → (x : ℕ) → Known ns x → x ≢ 22
-not-22 ns h x k q = false≢true (sym h ∙ ap (λ y. member y (0 ∷ ns)) (sym q) ∙ k)
+never : (ns : List ℕ) (y : ℕ) → member y (0 ∷ ns) ≡ false → (x : ℕ) → Known ns x → x ≢ y
+never ns y h x k q = false≢true (sym h ∙ ap (λ z. member z (0 ∷ ns)) (sym q) ∙ k)
+
+list-known-so : (t : Terms) (list : List ℕ) (w : Work) → Known of-list (refusal-of (strict-checks t list w []) .number)
+list-known-so t list w =
+    let k = list-numbers [] in
+    checks-known of-list (strict-checks t list w []) (list-known of-list (k .list) t list w []) (strict-in of-list (k .offered) t list)
+
+sheet-known-so : (sheet : List ℕ) (w : Work) → Known of-sheet (refusal-of (reading-checks sheet w []) .number)
+sheet-known-so sheet w =
+    let k = sheet-numbers [] in
+    checks-known of-sheet (reading-checks sheet w []) (early-sheet of-sheet k sheet w []) (late-sheet of-sheet k sheet w [])
+
+module _ (w : Work) (a b : ℕ) where
+  pub twenty : (t : Terms) (list : List ℕ) → (comparing t list w a b .0 ≡ refused (of-call 20)) ↔ Twenty (strict-checks t list w []) list a b
+  unfolding comparing member
+  twenty t list =
+      let c = strict-checks t list w [] in
+      also (is-refused (refusal-of (asked c list a b)) (of-call 20) (judged (t .processes) (accepted-of t list) a b) (λ q. omega arith))
+      (twenty-of c list a b (never of-list 20 refl (refusal-of c .number) (list-known-so t list w)))
+
+  pub twenty-sheet :
+      (sheet : List ℕ) → (comparing-sheet sheet w a b .0 ≡ refused (of-call 20)) ↔ Twenty (reading-checks sheet w []) (list-in sheet) a b
+  unfolding comparing-sheet member
+  twenty-sheet sheet =
+      let c = reading-checks sheet w [] in
+      let t = terms-in sheet in
+      also
+      (is-refused (refusal-of (asked c (list-in sheet) a b)) (of-call 20) (judged (t .processes) (accepted-of t (list-in sheet)) a b) (λ q. omega arith))
+      (twenty-of c (list-in sheet) a b (never of-sheet 20 refl (refusal-of c .number) (sheet-known-so sheet w)))
 
 module _ (w : Work) (a b : ℕ) (out : List ℕ) where
   pub twenty-two :
@@ -102,11 +149,9 @@ module _ (w : Work) (a b : ℕ) (out : List ℕ) where
   unfolding chaining member
   twenty-two t list =
       let c = strict-checks t list w [] in
-      let k = list-numbers [] in
       also (is-refused (refusal-of (chained c t list a b out)) (of-call 22) (length (chain (accepted-of t list) a b)) (λ q. omega arith))
       (twenty-two-of c t list a b out
-      (not-22 of-list refl (refusal-of c .number)
-      (checks-known of-list c (list-known of-list (k .list) t list w []) (strict-in of-list (k .offered) t list)))
+      (never of-list 22 refl (refusal-of c .number) (list-known-so t list w))
       (λ h. let (g, r) = list-accepted t list w [] .0 h in (g .listed .processes .1, g .accepted)))
 
   pub twenty-two-sheet :
@@ -117,8 +162,7 @@ module _ (w : Work) (a b : ℕ) (out : List ℕ) where
       let c = reading-checks sheet w [] in
       let t = terms-in sheet in
       let list = list-in sheet in
-      let k = sheet-numbers [] in
       also (is-refused (refusal-of (chained c t list a b out)) (of-call 22) (length (chain (accepted-of t list) a b)) (λ q. omega arith))
       (twenty-two-of c t list a b out
-      (not-22 of-sheet refl (refusal-of c .number) (checks-known of-sheet c (early-sheet of-sheet k sheet w []) (late-sheet of-sheet k sheet w [])))
+      (never of-sheet 22 refl (refusal-of c .number) (sheet-known-so sheet w))
       (λ h. let (s, r) = reading-number sheet w [] .0 h in (s .right .processes .1, s .accepted)))

@@ -80,6 +80,11 @@ pub record Eighteen (b : List ℕ) (cs : List Clocked) (i : ℕ) : Type 0 where
   pub earlier : take (length (flatten (take i (pieces cs)))) (stamps-in b) ≡ flatten (take i (pieces cs))
   pub wrong : Recorded (drop (length (flatten (take i (pieces cs)))) (stamps-in b)) (getD (stamps cs) i no-stamp) → ⊥
 
+-- 20: the checks so far pass, and an asked position is not below the event count.
+pub record Twenty (c : Checks) (list : List ℕ) (a b : ℕ) : Type 0 where
+  pub passed : refusal-of c .number ≡ 0
+  pub not-there : (a < how-many list) × (b < how-many list) → ⊥
+
 -- 22: the checks so far pass, both events are there, and the first is not before the second.
 pub record Twenty-two (c : Checks) (t : Terms) (list : List ℕ) (a b : ℕ) : Type 0 where
   pub passed : refusal-of c .number ≡ 0
