@@ -1,6 +1,7 @@
 #!/usr/bin/env bash
-# Every file that docs/ and README.md name exists, and every name that a table row gives behind a file is declared in it.
+# Every file that docs/PAPER.md and docs/PROMISES.md name exists, and every name that a table row gives behind a file is declared in it.
 # In a row, a word in backticks with a slash or an ending is a file; the words in backticks behind it are its names.
+# And the other way round: PAPER.md names every file of the paper's definitions and theorems and every claim, PROMISES.md every public function.
 set -u
 cd "$(dirname "$0")/.." || exit 2
 
@@ -29,6 +30,8 @@ find_file() { # PATH: where it stands
 
 bad=0
 seen=0
+named=$(mktemp) # PAGE FILE NAME, a line for each name that a page gives; PAGE FILE alone for the file itself
+trap 'rm -f "$named"' EXIT
 while IFS= read -r line; do
     page=${line%%:*}
     file=
@@ -39,11 +42,13 @@ while IFS= read -r line; do
                 echo "$page names the file $word, which does not exist"
                 bad=1
             fi
+            echo "$page $file" >>"$named"
             seen=$((seen + 1))
             ;;
         *)
             [ -n "$file" ] && [ -f "$file" ] || continue
             seen=$((seen + 1))
+            echo "$page $file $word" >>"$named"
             if ! declared "$file" | grep -qxF -- "$word"; then
                 echo "$page names $word of $file, which is not declared there"
                 bad=1
@@ -55,4 +60,28 @@ done < <(grep -H '^|' docs/PAPER.md docs/PROMISES.md 2>/dev/null)
 
 # A page without names would pass by saying nothing.
 [ "$seen" -ge 100 ] || { echo "only $seen names found in docs/"; bad=1; }
+
+missing() { # PAGE FILE [NAME]
+    grep -qxF -- "$*" "$named" && return
+    echo "$1 does not name ${3:+$3 of }$2"
+    bad=1
+}
+
+# The paper's files; one that only lists modules, or that only others' proofs are made of, has nothing to name.
+for file in crates/paper/specs/*.antt crates/paper/specs/Claims/*.antt crates/paper/proofs/*.antt crates/paper/proofs/Exactly/*.antt; do
+    case $file in */Firsts.antt) continue ;; esac
+    declared "$file" | grep -q . && missing docs/PAPER.md "$file"
+done
+for file in crates/paper/specs/Claims/*.antt; do
+    for claim in $(sed -n 's/^pub \(record\|data\) \([^ ]*\).*/\2/p' "$file"); do
+        missing docs/PAPER.md "$file" "$claim"
+    done
+done
+
+# Public functions. A crate's program, `main`, is no function that others call.
+for file in crates/*/src/*.rt; do
+    for name in $(sed -n 's/^ *pub *\(extern "C" \)\{0,1\}fn \([A-Za-z0-9_]*\).*/\2/p' "$file"); do
+        [ "$name" = main ] || missing docs/PROMISES.md "$file" "$name"
+    done
+done
 exit "$bad"

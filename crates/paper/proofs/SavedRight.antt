@@ -10,6 +10,7 @@ use mathlib.Core.List.{List, [], _∷_, _++_, flatMap}
 use lib.Dec.{eqb, ltb}
 use lib.Ieee.{Float}
 use lib.ListN.{length, getD, length-append}
+use lib.Seq.{getD-set-same, getD-set-other}
 use borrow.Author.Tests.{eqb-true, eq-eqb, ne-eqb, eqb-false}
 use Rattle.paper.specs.Buffers.{Work, value-slots, entries}
 use Rattle.paper.specs.Clock.{Clock, most-processes, most-events}
@@ -20,18 +21,20 @@ use Rattle.paper.specs.Order.{event-of}
 use Rattle.paper.specs.Reading.{reading-checks}
 use Rattle.paper.specs.Refusals.{first, of-call, refusal-of, Outcome, done}
 use Rattle.paper.specs.Running.{fresh-records}
-use Rattle.paper.specs.Savings.{sends, Counts, counts, whole, nearest, Saving, no-messages, percent, saving, savings, storing-checks}
+use Rattle.paper.specs.Savings.{sends, counts, nearest, Saving, no-messages, percent, saving, savings, stored, storing-checks, storing}
 use Rattle.paper.specs.Sheet.{processes-in, terms-in, list-in}
 use Rattle.paper.specs.Stamp.{Stamp, count, no-stamp, never-sent, previous, stamp-of, stamps-after}
 use Rattle.paper.specs.Terms.{Terms}
+pub use Rattle.paper.specs.Claims.Saved.{Bounds, Rightly-saved, Rightly-stored}
 use Rattle.paper.proofs.Laws.Append.{clocked-append, clocked-yes}
 use Rattle.paper.proofs.Laws.Masks.{count-le, count-same, count-less}
 use Rattle.paper.proofs.Laws.Places.{old, new, longer}
+use Rattle.paper.proofs.Laws.Refused.{after-done}
 use Rattle.paper.proofs.Laws.Runs.{clocked-few, length-events}
 use Rattle.paper.proofs.Laws.Tables.{cond-cases}
 use Rattle.paper.proofs.Laws.Tests.{also}
 use Rattle.paper.proofs.Lent.Stamps.{stamps-fit}
-use Rattle.paper.proofs.NearestRight.{Nearest-to, nearest-right}
+use Rattle.paper.proofs.NearestRight.{nearest-right}
 use Rattle.paper.proofs.ReadExactly.{reading-number}
 use Rattle.paper.proofs.Sheets.Checks.{not-below, last, both, by-place, placed, is-done}
 use Rattle.paper.proofs.TotalRight.{counted, one-number}
@@ -118,21 +121,20 @@ count-nothing p (suc k) h = cond-cases (λ (x : ℕ). x ≡ 0) (p k) _ _ (λ q. 
 count-none : (p : ℕ → Bool) (k : ℕ) → (count p k ≡ 0) ↔ ((a : ℕ) → a < k → p a ≡ true → ⊥)
 count-none p k = (λ z a h e. omega (arith, count-less p k a h e), count-nothing p k)
 
--- The counts of a sheet that is not refused, as the code's numbers hold them.
-pub record Bounds (c : Counts) : Type 0 where
-  pub some : 1 ≤ c .processes
-  pub few : c .processes ≤ 32
-  pub brief : c .sends ≤ 512
-  pub never : c .carried ≤ whole c
-
--- What is told of accepted events of n processes is right: of k sends, all that there are.
-pub record Rightly-saved (n : ℕ) (cs : List Clocked) (s : Saving) : Type 0 where
-  pub empty : (s ≡ no-messages) ↔ ((a : ℕ) → a < length cs → event-of cs a .kind ≡ send → ⊥)
-  pub figure :
-      (k : ℕ) → Number-of (λ a. event-of cs a .kind ≡ send) (length cs) k → 0 < k
-      → let p = 100 * (n * k - entries cs) in
-      (s ≡ percent (nearest p (n * k))) × Nearest-to p (n * k) (nearest p (n * k))
-  pub never-more : (k : ℕ) → Number-of (λ a. event-of cs a .kind ≡ send) (length cs) k → entries cs ≤ n * k
+stands : (s : Saving) (out : List Float) → 1 ≤ length out → Rightly-stored s out (stored s out)
+unfolding stored
+stands no-messages out l =
+    record {
+      figure = λ x e d. let z : _≡_ {A = ℕ} 0 1 = cc in absurd (omega arith);
+      others = λ k h d. refl;
+      no-figure = λ e. refl;
+    }
+stands (percent y) out l =
+    record {
+      figure = λ x e d. getD-set-same out 0 y d l ∙ cc;
+      others = λ k h d. getD-set-other out 0 k y d (λ q. omega arith);
+      no-figure = λ e. let z : _≡_ {A = ℕ} 0 1 = cc in absurd (omega arith);
+    }
 
 module _ (b : List ℕ) (w : Work) where
   abbrev n : ℕ
@@ -222,4 +224,18 @@ module _ (b : List ℕ) (w : Work) where
       (last (ltb (length out) 1) 21 (omega arith) (not-below (length out) 1)))) (
         λ h. (placed c .1 (h .0, h .1 .0), h .1 .1),
         λ h. let (early, late) = placed c .0 (h .0) in (early, (late, h .1)),
+      )
+
+  -- What stands in the slots, where it is stored.
+  pub stored-right :
+      (out : List Float) (s : Saving) → storing b w out .0 .0 ≡ done s → Rightly-saved n accepted s × Rightly-stored s out (storing b w out .1)
+  unfolding storing
+  stored-right out s h =
+      let c = storing-checks b w out in
+      let (z, same) = is-done (refusal-of c) (saving (counts n accepted)) s .0 h in
+      let (early, late) = placed c .0 z in
+      let (read, room) = storing-number out .0 z in (
+        subst (Rightly-saved n accepted) same (rightly read),
+        rw (after-done c (stored (saving (counts n accepted)) out) out out early late)
+            (subst (λ (x : Saving). Rightly-stored x out (stored (saving (counts n accepted)) out)) same (stands (saving (counts n accepted)) out room)),
       )

@@ -1,0 +1,21 @@
+-- What the theorems of `proofs/` claim, so far as it is no definition of the paper's own.
+pub mod Samples
+pub mod Settled
+pub mod EachNumber
+pub mod Exactly
+pub mod PupilA
+pub mod SavedA
+pub mod Elsewhere
+pub mod Slots
+pub mod LamportRule
+pub mod LeftOut
+pub mod Agrees
+pub mod Verdicts
+pub mod Fits
+pub mod Ones
+pub mod Table
+pub mod Chain
+pub mod Marked
+pub mod Saved
+pub mod Decimal
+pub mod AsInReading
