@@ -1,28 +1,20 @@
 // What `chain` answers: the whole text for a whole sheet, over work buffers that are always large enough.
 ghost use Rattle.lines.specs.Text.{Printed};
-ghost use Rattle.chain.specs.Answer.{chain-said, chain-answer};
+ghost use Rattle.chain.specs.Answer.{chain-answer};
 use clock::Position;
 use desk::PAGE;
 use order::Chained;
-use sheet::Reading;
 
-// The chain from one event of a list to another.
-fn chain_said(
-    n: usize,
-    list: &[u8],
-    first: Position,
-    second: Position,
-    out: &mut [u8; PAGE],
-) -> usize
-    ensures { λ r. ⌜ Printed (now (out .entry)) (chain-said n (now (list .entry)) (first .0) (second .0)) r (now (out .exit)) ⌝ }
+// What `chain` prints: the chain from one event of a sheet to another.
+pub fn chain_answer(sheet: &[u8], first: Position, second: Position, out: &mut [u8; PAGE]) -> usize
+    ensures { λ r. ⌜ Printed (now (out .entry)) (chain-answer (now (sheet .entry)) (first .0) (second .0)) r (now (out .exit)) ⌝ }
 {
     let mut clocks = [0u16; 16384];
     let mut masks = [0u32; 512];
     let mut values = [0u16; 16384];
     let mut chain = [0u16; 31];
-    let c = order::chain(
-        n,
-        list,
+    let c = order::chain_sheet(
+        sheet,
         &mut clocks,
         &mut masks,
         &mut values,
@@ -33,22 +25,5 @@ fn chain_said(
     match c {
         Chained::Refused(r) => lines::refusal_text(r, out),
         Chained::Done(k) => lines::chain_text(&chain, k, out),
-    }
-}
-
-// What `chain` prints: the chain from one event of a sheet to another.
-pub fn chain_answer(sheet: &[u8], first: Position, second: Position, out: &mut [u8; PAGE]) -> usize
-    ensures { λ r. ⌜ Printed (now (out .entry)) (chain-answer (now (sheet .entry)) (first .0) (second .0)) r (now (out .exit)) ⌝ }
-{
-    let mut clocks = [0u16; 16384];
-    let mut masks = [0u32; 512];
-    let mut values = [0u16; 16384];
-    let r = sheet::read(sheet, &mut clocks, &mut masks, &mut values);
-    match r {
-        Reading::Refused(r) => lines::refusal_text(r, out),
-        Reading::Done(c) => {
-            let from = c.offset;
-            chain_said(c.processes, &sheet[from..from + c.size], first, second, out)
-        }
     }
 }

@@ -1,6 +1,7 @@
 // `class PROCESSES < LIST`: what becomes of each offer of an event list.
 mod answer;
 
+use clock::Terms;
 use libc::STDERR_FILENO;
 use libc::STDIN_FILENO;
 use libc::STDOUT_FILENO;
@@ -14,6 +15,6 @@ fn main() {
     let mut list = [0u8; 4097];
     let size = io::read_full(STDIN_FILENO, &mut list);
     let mut page = [0u8; desk::PAGE];
-    let length = answer::class_answer(n, &list[0..size], &mut page);
+    let length = answer::class_answer(Terms::plain(n), &list[0..size], &mut page);
     desk::print(STDOUT_FILENO, &page, length);
 }

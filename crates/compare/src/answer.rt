@@ -1,30 +1,9 @@
 // What `compare` answers: the whole text for a whole sheet, over work buffers that are always large enough.
 ghost use Rattle.lines.specs.Text.{Printed};
-ghost use Rattle.compare.specs.Answer.{verdict-said, compare-answer};
+ghost use Rattle.compare.specs.Answer.{compare-answer};
 use clock::Position;
 use desk::PAGE;
 use order::Compared;
-use sheet::Reading;
-
-// The verdict on two events of a list.
-fn verdict_said(
-    n: usize,
-    list: &[u8],
-    first: Position,
-    second: Position,
-    out: &mut [u8; PAGE],
-) -> usize
-    ensures { λ r. ⌜ Printed (now (out .entry)) (verdict-said n (now (list .entry)) (first .0) (second .0)) r (now (out .exit)) ⌝ }
-{
-    let mut clocks = [0u16; 16384];
-    let mut masks = [0u32; 512];
-    let mut values = [0u16; 16384];
-    let c = order::compare(n, list, &mut clocks, &mut masks, &mut values, first, second);
-    match c {
-        Compared::Refused(r) => lines::refusal_text(r, out),
-        Compared::Done(v) => lines::verdict_text(v, out),
-    }
-}
 
 // What `compare` prints: the verdict on two events of a sheet.
 pub fn compare_answer(
@@ -38,12 +17,9 @@ pub fn compare_answer(
     let mut clocks = [0u16; 16384];
     let mut masks = [0u32; 512];
     let mut values = [0u16; 16384];
-    let r = sheet::read(sheet, &mut clocks, &mut masks, &mut values);
-    match r {
-        Reading::Refused(r) => lines::refusal_text(r, out),
-        Reading::Done(c) => {
-            let from = c.offset;
-            verdict_said(c.processes, &sheet[from..from + c.size], first, second, out)
-        }
+    let c = order::compare_sheet(sheet, &mut clocks, &mut masks, &mut values, first, second);
+    match c {
+        Compared::Refused(r) => lines::refusal_text(r, out),
+        Compared::Done(v) => lines::verdict_text(v, out),
     }
 }

@@ -1,3 +1,1 @@
-pub mod Listed
-pub mod Roomy
-pub mod NeverShort
+pub mod Printed

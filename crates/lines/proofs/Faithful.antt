@@ -100,7 +100,7 @@ laid-enough named xs old =
       length-replicate {A = ℕ} (named - length xs) 0,
     )
 
-module _ {t : Terms} {list : List ℕ} {w w′ : Work} where
+module _ {t : Terms} {list : List ℕ} {w w′ : Work} (h : Held t list w w′) where
   abbrev n : ℕ
   n = t .processes
 
@@ -113,100 +113,102 @@ module _ {t : Terms} {list : List ℕ} {w w′ : Work} where
   abbrev rs : List ℕ
   rs = answers-of t list
 
-  module _ (h : Held t list w w′) where
-    slots-fit : Fitting n list (w′ .clocks) (w′ .masks)
-    slots-fit =
-        let (k, few, size) = h .listed .whole-records in
-        record { few = small h; short = omega arith; clocked = still h .clocks; masked = still h .masks }
+  slots-fit : Fitting n list (w′ .clocks) (w′ .masks)
+  slots-fit =
+      let (k, few, size) = h .listed .whole-records in
+      record { few = small h; short = omega arith; clocked = still h .clocks; masked = still h .masks }
 
-    -- The words over the slots of the event accepted as number a.
-    words-there :
-        (i a : ℕ) → a < length cs → event-of cs a ≡ getD (events-of list) i (nothing .event) → i < m
-        → event-words n i (getD cs a nothing) (getD (stamps cs) a no-stamp) ≡ slot-words n list (w′ .clocks) (w′ .masks) i a
-    unfolding slot-words
-    words-there i a l e inside =
-        same-words n i _ _ _ _ (e ∙ events-at m list i inside) (sym (row-there h a l)) (sym (mask-there h a l))
+  -- The words over the slots of the event accepted as number a.
+  words-there :
+      (i a : ℕ) → a < length cs → event-of cs a ≡ getD (events-of list) i (nothing .event) → i < m
+      → event-words n i (getD cs a nothing) (getD (stamps cs) a no-stamp) ≡ slot-words n list (w′ .clocks) (w′ .masks) i a
+  unfolding slot-words
+  words-there i a l e inside =
+      same-words n i _ _ _ _ (e ∙ events-at m list i inside) (sym (row-there h a l)) (sym (mask-there h a l))
 
-    -- The line over the slots of an accepted offer.
-    line-there : (i : ℕ) → i < m → byte rs i ≡ 0 → let a = accepted-before rs i in
-        event-line n i (getD cs a nothing) (getD (stamps cs) a no-stamp) ≡ slot-line n list (w′ .clocks) (w′ .masks) [] i a
-    unfolding event-line slot-line
-    line-there i inside z =
-        let f = found t (events-of list) (start t) i (omega (arith, length-events m list)) z in
-        rw (words-there i (accepted-before rs i) (f .there) (f .same) inside, no-number (accepted-before rs i), append-nil)
+  -- The line over the slots of an accepted offer.
+  line-there : (i : ℕ) → i < m → byte rs i ≡ 0 → let a = accepted-before rs i in
+      event-line n i (getD cs a nothing) (getD (stamps cs) a no-stamp) ≡ slot-line n list (w′ .clocks) (w′ .masks) [] i a
+  unfolding event-line slot-line
+  line-there i inside z =
+      let f = found t (events-of list) (start t) i (omega (arith, length-events m list)) z in
+      rw (words-there i (accepted-before rs i) (f .there) (f .same) inside, no-number (accepted-before rs i), append-nil)
 
-    -- Where the answers too stand in lent slots.
-    module _ (old : List ℕ) where
-      abbrev lent : List ℕ
-      lent = laid m rs old
+  -- Where the answers too stand in lent slots.
+  module _ (old : List ℕ) where
+    abbrev lent : List ℕ
+    lent = laid m rs old
 
-      many-answers : length rs ≡ m
-      many-answers = length-answers t (events-of list) (start t) ∙ length-events m list
+    many-answers : length rs ≡ m
+    many-answers = length-answers t (events-of list) (start t) ∙ length-events m list
 
-      offer-there : (i : ℕ) → i < m → offer-line n list lent (w′ .clocks) (w′ .masks) i ≡ class-line n rs cs (stamps cs) i
-      unfolding offer-line class-line
-      offer-there i inside =
-          let same : (k : ℕ) → k < m → byte lent k ≡ byte rs k = λ k l. laid-there m rs old k (omega (arith, many-answers)) in
-          rw (same i inside, accepted-same lent rs i (λ k l. same k (omega arith))) (go (eqb (byte rs i) 0) refl)
-        where
-          go : (b : Bool) → eqb (byte rs i) 0 ≡ b → let a = accepted-before rs i in
-              cond b (slot-line n list (w′ .clocks) (w′ .masks) [] i a) (refused-line i (byte rs i))
-              ≡ cond b (event-line n i (getD cs a nothing) (getD (stamps cs) a no-stamp)) (refused-line i (byte rs i))
-          go true e = sym (line-there i inside (eqb-true (byte rs i) 0 e))
-          go false e = refl
+    offer-there : (i : ℕ) → i < m → offer-line n list lent (w′ .clocks) (w′ .masks) i ≡ class-line n rs cs (stamps cs) i
+    unfolding offer-line class-line
+    offer-there i inside =
+        let same : (k : ℕ) → k < m → byte lent k ≡ byte rs k = λ k l. laid-there m rs old k (omega (arith, many-answers)) in
+        rw (same i inside, accepted-same lent rs i (λ k l. same k (omega arith))) (go (eqb (byte rs i) 0) refl)
+      where
+        go : (b : Bool) → eqb (byte rs i) 0 ≡ b → let a = accepted-before rs i in
+            cond b (slot-line n list (w′ .clocks) (w′ .masks) [] i a) (refused-line i (byte rs i))
+            ≡ cond b (event-line n i (getD cs a nothing) (getD (stamps cs) a no-stamp)) (refused-line i (byte rs i))
+        go true e = sym (line-there i inside (eqb-true (byte rs i) 0 e))
+        go false e = refl
 
-      pub class-after : class-text n list lent (w′ .clocks) (w′ .masks) (length cs) (entries cs) ≡ class-listing t list
-      unfolding class-text class-listing
-      class-after =
-          simp (fitted slots-fit, le-leb _ _ (laid-enough m rs old))
-          (ap (λ (l : List ℕ). class-head m n (length cs) (entries cs) ++ l)
-          (each-same (offer-line n list lent (w′ .clocks) (w′ .masks)) (class-line n rs cs (stamps cs)) m offer-there))
+    pub class-after : class-text n list lent (w′ .clocks) (w′ .masks) (length cs) (entries cs) ≡ class-listing t list
+    unfolding class-text class-listing
+    class-after =
+        simp (fitted slots-fit, le-leb _ _ (laid-enough m rs old))
+        (ap (λ (l : List ℕ). class-head m n (length cs) (entries cs) ++ l)
+        (each-same (offer-line n list lent (w′ .clocks) (w′ .masks)) (class-line n rs cs (stamps cs)) m offer-there))
 
-  -- Where all events are accepted, each stands at its own place.
-  module _ (s : Stands t list w w′) where
-    own-words : (i : ℕ) → i < length cs → event-words n i (getD cs i nothing) (getD (stamps cs) i no-stamp) ≡ slot-words n list (w′ .clocks) (w′ .masks) i i
-    own-words i l =
-        let inside : i < how-many list = omega (arith, all s) in
-        words-there (s .held) i i l (event-there s i inside ∙ sym (events-at (how-many list) list i inside)) inside
+-- Where all events are accepted, each stands at its own place.
+module _ {t : Terms} {list : List ℕ} {w w′ : Work} (s : Stands t list w w′) where
+  abbrev events : List Clocked
+  events = accepted-of t list
 
-    -- The lines from i on are those of what is left of the lists.
-    module _ (numbers : List ℕ) (rest : ℕ → List ℕ) where
-      abbrev line : ℕ → List ℕ
-      line i = slot-line n list (w′ .clocks) (w′ .masks) numbers i i
+  own-words : (i : ℕ) → i < length events → event-words (t .processes) i (getD events i nothing) (getD (stamps events) i no-stamp) ≡ slot-words (t .processes) list (w′ .clocks) (w′ .masks) i i
+  own-words i l =
+      let inside : i < how-many list = omega (arith, all s) in
+      words-there (s .held) i i l (event-there s i inside ∙ sym (events-at (how-many list) list i inside)) inside
 
-      text-is :
-          ((i : ℕ) → i < length cs → rest i ≡ line i ++ rest (suc i)) → rest (length cs) ≡ []
-          → numbered-text n list (w′ .clocks) (w′ .masks) numbers (entries cs) ≡ head-line (length cs) n (entries cs) ++ rest 0
-      unfolding numbered-text
-      text-is h e =
-          rw (fitted (slots-fit (s .held)))
-          (ap (λ (k : ℕ). head-line k n (entries cs) ++ each line k) (sym (all s))
-          ∙ ap (λ (l : List ℕ). head-line (length cs) n (entries cs) ++ l) (lines-each line rest (length cs) h e))
+  -- The lines from i on are those of what is left of the lists.
+  module _ (numbers : List ℕ) (rest : ℕ → List ℕ) where
+    abbrev line : ℕ → List ℕ
+    line i = slot-line (t .processes) list (w′ .clocks) (w′ .masks) numbers i i
 
-    left : (i : ℕ) → i < length cs → drop i (stamps cs) ≡ getD (stamps cs) i no-stamp ∷ drop (suc i) (stamps cs)
-    left i h = drop-cons (stamps cs) i no-stamp (omega (arith, length-stamps cs never-sent))
+    text-is :
+        ((i : ℕ) → i < length events → rest i ≡ line i ++ rest (suc i)) → rest (length events) ≡ []
+        → numbered-text (t .processes) list (w′ .clocks) (w′ .masks) numbers (entries events) ≡ head-line (length events) (t .processes) (entries events) ++ rest 0
+    unfolding numbered-text
+    text-is h e =
+        rw (fitted (slots-fit (s .held)))
+        (ap (λ (k : ℕ). head-line k (t .processes) (entries events) ++ each line k) (sym (all s))
+        ∙ ap (λ (l : List ℕ). head-line (length events) (t .processes) (entries events) ++ l) (lines-each line rest (length events) h e))
 
-    pub listing-after : listing-text n list (w′ .clocks) (w′ .masks) (entries cs) ≡ listing t list
-    unfolding listing event-lines event-line slot-line
-    listing-after =
-        text-is [] (λ i. event-lines n i (drop i cs) (drop i (stamps cs)))
-        (λ i h. rw (drop-cons cs i nothing h, left i h, own-words i h, no-number i, append-nil))
-        (rw (drop-length cs))
+  left : (i : ℕ) → i < length events → drop i (stamps events) ≡ getD (stamps events) i no-stamp ∷ drop (suc i) (stamps events)
+  left i h = drop-cons (stamps events) i no-stamp (omega (arith, length-stamps events never-sent))
 
-    pub lamport-after :
-        (old : List ℕ) → let numbers = laid (how-many list) (lamports cs) old in
-        listing-lamport-text n list (w′ .clocks) (w′ .masks) numbers (entries cs) ≡ lamport-listing t list
-    unfolding listing-lamport-text lamport-listing lamport-lines lamport-line slot-line
-    lamport-after old =
-        let numbers = laid (how-many list) (lamports cs) old in
-        let many : length (lamports cs) ≡ length cs = length-lamports cs no-scalars in
-        let enough : how-many list ≤ length numbers = laid-enough (how-many list) (lamports cs) old in
-        let own : (i : ℕ) → i < length cs → last-field numbers i ≡ word (getD (lamports cs) i 0) =
-        λ i h. sym (number-there numbers i (omega (arith, all s)) (sym (laid-there (how-many list) (lamports cs) old i (omega (arith, many))))) in
-        rw (le-leb _ _ enough)
-        (text-is numbers (λ i. lamport-lines n i (drop i cs) (drop i (stamps cs)) (drop i (lamports cs)))
-        (λ i h. rw (drop-cons cs i nothing h, left i h, drop-cons (lamports cs) i 0 (omega (arith, many)), own-words i h, own i h))
-        (rw (drop-length cs)))
+  pub listing-after : listing-text (t .processes) list (w′ .clocks) (w′ .masks) (entries events) ≡ listing t list
+  unfolding listing event-lines event-line slot-line
+  listing-after =
+      text-is [] (λ i. event-lines (t .processes) i (drop i events) (drop i (stamps events)))
+      (λ i h. rw (drop-cons events i nothing h, left i h, own-words i h, no-number i, append-nil))
+      (rw (drop-length events))
+
+  pub lamport-after :
+      (old : List ℕ) → let numbers = laid (how-many list) (lamports events) old in
+      listing-lamport-text (t .processes) list (w′ .clocks) (w′ .masks) numbers (entries events) ≡ lamport-listing t list
+  unfolding listing-lamport-text lamport-listing lamport-lines lamport-line slot-line
+  lamport-after old =
+      let numbers = laid (how-many list) (lamports events) old in
+      let many : length (lamports events) ≡ length events = length-lamports events no-scalars in
+      let enough : how-many list ≤ length numbers = laid-enough (how-many list) (lamports events) old in
+      let own : (i : ℕ) → i < length events → last-field numbers i ≡ word (getD (lamports events) i 0) =
+      λ i h. sym (number-there numbers i (omega (arith, all s)) (sym (laid-there (how-many list) (lamports events) old i (omega (arith, many))))) in
+      rw (le-leb _ _ enough)
+      (text-is numbers (λ i. lamport-lines (t .processes) i (drop i events) (drop i (stamps events)) (drop i (lamports events)))
+      (λ i h. rw (drop-cons events i nothing h, left i h, drop-cons (lamports events) i 0 (omega (arith, many)), own-words i h, own i h))
+      (rw (drop-length events)))
 
 pub chain-after : (xs old : List ℕ) → length xs ≤ 512 → chain-text (laid (length xs) xs old) (length xs) ≡ chain-line xs
 unfolding chain-text laid

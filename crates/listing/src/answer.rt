@@ -17,7 +17,7 @@ pub fn listing_answer(sheet: &[u8], out: &mut [u8; PAGE]) -> usize
         Reading::Done(c) => {
             let from = c.offset;
             let list = &sheet[from..from + c.size];
-            lines::listing_text(c.processes, list, &clocks, &masks, c.carried, out)
+            lines::listing_text(c.terms.processes, list, &clocks, &masks, c.carried, out)
         }
     }
 }
@@ -37,7 +37,7 @@ pub fn listing_lamport_answer(sheet: &[u8], out: &mut [u8; PAGE]) -> usize
             let from = c.offset;
             let list = &sheet[from..from + c.size];
             lines::listing_lamport_text(
-                c.processes,
+                c.terms.processes,
                 list,
                 &clocks,
                 &masks,

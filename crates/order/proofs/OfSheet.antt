@@ -1,7 +1,6 @@
 -- The questions on a sheet: what refuses the sheet refuses the question, and on an accepted one they end as on its list.
 use Prim.Native.Nat.{ℕ, _+_, _-_}
-use native.Mathlib.Omega.{arith}
-use mathlib.Core.Path.{_≡_, sym, ap, _∙_, subst₂}
+use mathlib.Core.Path.{_≡_, sym, subst₂}
 use mathlib.Core.List.{List, []}
 use lib.ListN.{take, drop}
 use Rattle.paper.specs.Buffers.{Work}
@@ -11,7 +10,7 @@ use Rattle.paper.specs.Refusals.{Refusal, Outcome, refused}
 use Rattle.paper.specs.Sheet.{terms-in, list-in}
 use Rattle.paper.specs.Stands.{Stands}
 use Rattle.paper.specs.Terms.{Terms}
-use Rattle.sheet.proofs.Accepted.{Accepted}
+use Rattle.sheet.proofs.Accepted.{Accepted, lent-list, lent-stands}
 use Rattle.order.specs.Rest.{Past, Compares, Links}
 use Rattle.order.proofs.Asked.{comparison-refused}
 use Rattle.order.proofs.Linked.{linking-refused}
@@ -30,22 +29,19 @@ module _ {b : List ℕ} {w w′ : Work} {t : Terms} {at size carried : ℕ} (s :
   abbrev lent : List ℕ
   lent = take (at + size - at) (drop at b)
 
-  is-lent : list-in b ≡ lent
-  is-lent = let e : size ≡ at + size - at = omega arith in s .list ∙ ap (λ (k : ℕ). take k (drop at b)) e
-
   past : Past (reading-checks b w []) (terms-in b) (list-in b) w w′
   past = record { early = s .early; late = s .late; stands = s .stands }
 
-  pub lent-stands : (v : Work) × Stands t lent v w′
-  lent-stands = (w, subst₂ (λ (t : Terms) (l : List ℕ). Stands t l w w′) (s .terms) is-lent (s .stands))
+  pub some-stands : (v : Work) × Stands t lent v w′
+  some-stands = (w, lent-stands s)
 
   module _ {i j : ℕ} {r : Outcome ℕ} {w″ : Work} where
     pub compare-done : Compares t lent w′ i j r w″ → (r, w″) ≡ comparing-sheet b w i j
     unfolding comparing-sheet
     compare-done h =
-        subst₂ (λ (t : Terms) (l : List ℕ). Compares t l w′ i j r w″) (sym (s .terms)) (sym is-lent) h .ends (reading-checks b w []) w past
+        subst₂ (λ (t : Terms) (l : List ℕ). Compares t l w′ i j r w″) (sym (s .terms)) (sym (lent-list s)) h .ends (reading-checks b w []) w past
 
     pub chain-done : {out out′ : List ℕ} → Links t lent w′ i j out r w″ out′ → ((r, w″), out′) ≡ chaining-sheet b w i j out
     unfolding chaining-sheet
     chain-done {out} {out′} h =
-        subst₂ (λ (t : Terms) (l : List ℕ). Links t l w′ i j out r w″ out′) (sym (s .terms)) (sym is-lent) h .ends (reading-checks b w []) w past
+        subst₂ (λ (t : Terms) (l : List ℕ). Links t l w′ i j out r w″ out′) (sym (s .terms)) (sym (lent-list s)) h .ends (reading-checks b w []) w past

@@ -1,8 +1,8 @@
 -- For callers that go on from what was read: an accepted sheet's checks are passed, its events stand in the slots, and its list lies inside the sheet.
-use Prim.Native.Nat.{ℕ, _+_, _/_, _≤_}
+use Prim.Native.Nat.{ℕ, _+_, _-_, _/_, _≤_}
 use native.Mathlib.Omega.{arith}
 use mathlib.Core.List.{List, []}
-use mathlib.Core.Path.{_≡_, sym, ap, _∙_, subst}
+use mathlib.Core.Path.{_≡_, sym, ap, _∙_, subst, subst₂}
 use lib.ListN.{length, take, drop, length-take, length-drop}
 use Rattle.clock.specs.Said.{refusal, stated}
 use Rattle.clock.specs.declared.Refusal as declared-refusal
@@ -62,6 +62,14 @@ module _ {b : List ℕ} {w w′ : Work} {t : Terms} {at size carried : ℕ} wher
         few = omega (arith, e, brief);
         short = sheet .size .1;
       }
+
+-- The part of the sheet that a caller lends on is the list that was read, and its events stand in the slots.
+module _ {b : List ℕ} {w w′ : Work} {t : Terms} {at size carried : ℕ} (s : Accepted b w w′ t at size carried) where
+  pub lent-list : list-in b ≡ take (at + size - at) (drop at b)
+  lent-list = let e : size ≡ at + size - at = omega arith in s .list ∙ ap (λ (k : ℕ). take k (drop at b)) e
+
+  pub lent-stands : Stands t (take (at + size - at) (drop at b)) w w′
+  lent-stands = subst₂ (λ (t : Terms) (l : List ℕ). Stands t l w w′) (s .terms) lent-list (s .stands)
 
 -- By the case of what the reader answers.
 module _ {r : declared-reading.Reading} where

@@ -2,6 +2,7 @@
 mod answer;
 
 use answer::Written;
+use clock::Terms;
 use libc::STDERR_FILENO;
 use libc::STDIN_FILENO;
 use libc::STDOUT_FILENO;
@@ -15,7 +16,7 @@ fn main() {
     let mut list = [0u8; 4097];
     let size = io::read_full(STDIN_FILENO, &mut list);
     let mut page = [0u8; desk::PAGE];
-    match answer::write_answer(n, &list[0..size], &mut page) {
+    match answer::write_answer(Terms::plain(n), &list[0..size], &mut page) {
         Written::Sheet(length) => desk::print(STDOUT_FILENO, &page, length),
         Written::Line(length) => desk::print(STDERR_FILENO, &page, length),
     }

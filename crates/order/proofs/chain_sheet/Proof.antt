@@ -5,7 +5,7 @@ use Rattle.paper.specs.Buffers.{Work}
 use Rattle.clock.specs.Said.{stated}
 use Rattle.course.specs.Said.{work}
 use Rattle.sheet.proofs.Accepted.{Accepted, accepted, refuses}
-use Rattle.order.proofs.OfSheet.{chain-refused, lent-stands, chain-done}
+use Rattle.order.proofs.OfSheet.{chain-refused, some-stands, chain-done}
 use borrow.Author.Needs.{needs}
 use Rattle.order.proofs.chain_sheet.Statement.{statement}
 use Rattle.order.proofs.chain_sheet.Tie as tie
@@ -35,7 +35,7 @@ part-list-end : tie.Need-part-list-end
 part-list-end c = omega (arith, sheet-accepted (c .before .before .before) .inside)
 
 linking-requires : tie.Need-linking-requires
-linking-requires c κs = lent-stands (sheet-accepted (c .before .before .before .before .before .before .before .before))
+linking-requires c κs = some-stands (sheet-accepted (c .before .before .before .before .before .before .before .before))
 
 returns : tie.Need-returns
 returns c = chain-refused _ _ _ _ (refuses _ _ (c .before .r .given .1) (c .before .before .before .before .before .before .before .before .before .read .ensures)) _

@@ -1,44 +1,27 @@
--- The text is that of reading's outcome, and of what is asked of the list that is read.
-use Prim.Native.Nat.{_+_, _≤_}
-use mathlib.Core.Path.{_≡_, ap, sym, _∙_, subst}
-use native.Mathlib.Omega.{arith}
-use denote.Ref.{now}
-use lib.ListN.{length}
+-- The text is that of the chain's outcome.
+use mathlib.Core.Path.{ap, sym, _∙_}
 use Rattle.course.specs.Said.{work}
-use Rattle.sheet.specs.Said.{told, Where}
+use Rattle.order.specs.Said.{chained}
 use Rattle.paper.specs.Buffers.{Work}
-use Rattle.paper.specs.Reading.{reading}
-use Rattle.paper.specs.Refusals.{done}
-use Rattle.desk.specs.Answers.{ample}
-use Rattle.desk.proofs.Listed.{printed-as, found, lies}
+use Rattle.desk.proofs.Printed.{printed-as}
 use Rattle.chain.proofs.Asked.{chain-refused, chain-done}
 use borrow.Author.Needs.{needs}
 use Rattle.chain.proofs.answer.chain_answer.Statement.{statement}
 use Rattle.chain.proofs.answer.chain_answer.Tie as tie
 
--- The slots after reading.
-abbrev slots : tie.After-read → Work
-slots c = let t = c .read .last in work (t .1 .0) (t .1 .1 .0) (t .1 .1 .1 .0)
-
-accepted : (c : tie.After-struct-known) → let x = c .before .before .r2 .given .0 .0 in let b = now (c .before .before .before .before .before .before .before .before .before .before .before .before .args .sheet) in (done (found b (x .processes) (x .offset) (x .size) (x .carried)), slots (c .before .before .before .before .before .before .before)) ≡ reading b ample
-accepted c = ap (λ r. (told (now (c .before .before .before .before .before .before .before .before .before .before .before .before .args .sheet)) r, slots (c .before .before .before .before .before .before .before))) (sym (c .before .before .r2 .given .1)) ∙ c .before .before .before .before .before .before .before .read .ensures .0
-
-inside : (c : tie.After-struct-known) → let x = c .before .before .r2 .given .0 .0 in let b = now (c .before .before .before .before .before .before .before .before .before .before .before .before .args .sheet) in (x .offset + x .size ≤ length b) × (length b ≤ 40960)
-inside c = let w = subst (Where (now (c .before .before .before .before .before .before .before .before .before .before .before .before .args .sheet))) (c .before .before .r2 .given .1) (c .before .before .before .before .before .before .before .read .ensures .1) in lies _ _ _ _ _ _ (accepted c) (w .0) (w .1)
-
-add-chain-said : tie.Need-add-chain-said
-add-chain-said c = let i = inside c in omega (arith, i .0, i .1)
-
-part-chain-said-end : tie.Need-part-chain-said-end
-part-chain-said-end c = let i = inside c in omega (arith, i .0)
+-- The slots after asking for the chain.
+abbrev slots : tie.After-chain-sheet → Work
+slots c = let t = c .chain-sheet .last in work (t .1 .0) (t .1 .1 .0) (t .1 .1 .1 .0)
 
 returns : tie.Need-returns
 returns c =
-    let k = c .before .before .before .before .before .before .before .before in
-    printed-as (chain-refused _ _ _ (ap (λ r. (told (now (c .before .before .before .before .before .before .before .before .before .before .before .before .before .args .sheet)) r, slots k)) (sym (c .before .before .before .r .given .1)) ∙ k .read .ensures .0) _ _) (c .refusal-text .ensures)
+    let k = c .before .before .before .before .before .before .before .before .before in
+    printed-as (chain-refused _ _ _ (ap (λ r. ((chained r, slots k), k .chain-sheet .last .1 .1 .1 .1 .1 .1 .0)) (sym (c .before .before .before .c .given .1)) ∙ k .chain-sheet .ensures)) (c .refusal-text .ensures)
 
 returns-2 : tie.Need-returns-2
-returns-2 c = let x = c .before .before .before .before .before .r2 .given .0 .0 in printed-as (chain-done _ _ (x .processes) (x .offset) (x .size) (x .carried) (accepted (c .before .before .before)) _ _) (c .chain-said .ensures)
+returns-2 c =
+    let k = c .before .before .before .before .before .before .before .before .before .before in
+    printed-as (chain-done _ _ _ (ap (λ r. ((chained r, slots k), k .chain-sheet .last .1 .1 .1 .1 .1 .1 .0)) (sym (c .before .before .before .before .c2 .given .1)) ∙ k .chain-sheet .ensures)) (c .chain-text .ensures)
 
 pub chain-answer-spec : {M : Type 1} → statement M
 chain-answer-spec =
@@ -47,14 +30,12 @@ chain-answer-spec =
     (λ c. search needs)
     (λ c. search needs)
     (λ c. search needs)
-    (λ c κs. search needs)
     (λ c. search needs)
     (λ c κs. search needs)
     (λ c. search needs)
-    add-chain-said
+    (λ c κs. search needs)
     (λ c. search needs)
     (λ c. search needs)
-    part-chain-said-end
     (λ c κs. search needs)
     returns
     returns-2)

@@ -22,12 +22,12 @@ long c = omega (arith, c .write-arg .given .0 .1)
 returns : tie.Need-returns
 returns c =
     let k = c .before .before .before .before .before .before .before .before in
-    write-refused _ _ _ (long (c .before .before .before .before .before .before .before .before .before)) (slots k) _ _ _ _ (ap (λ r. (wrote r, slots k, k .write .last .1 .1 .1 .1 .1 .0)) (sym (c .before .before .before .w .given .1)) ∙ k .write .ensures) (c .refusal-text .ensures)
+    write-refused _ _ _ (long (c .before .before .before .before .before .before .before .before .before)) (slots k) _ _ _ _ (ap (λ r. ((wrote r, slots k), k .write .last .1 .1 .1 .1 .1 .0)) (sym (c .before .before .before .w .given .1)) ∙ k .write .ensures) (c .refusal-text .ensures)
 
 returns-2 : tie.Need-returns-2
 returns-2 c =
     let k = c .before .before .before .before .before .before in
-    write-done _ _ _ (long (c .before .before .before .before .before .before .before)) (slots k) _ _ _ (ap (λ r. (wrote r, slots k, k .write .last .1 .1 .1 .1 .1 .0)) (sym (c .before .w2 .given .1)) ∙ k .write .ensures)
+    write-done _ _ _ (long (c .before .before .before .before .before .before .before)) (slots k) _ _ (ap (λ r. ((wrote r, slots k), k .write .last .1 .1 .1 .1 .1 .0)) (sym (c .before .w2 .given .1)) ∙ k .write .ensures)
 
 pub write-answer-spec : {M : Type 1} → statement M
 write-answer-spec =
