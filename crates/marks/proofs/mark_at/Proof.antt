@@ -32,7 +32,9 @@ returns-2 : tie.Need-returns-2
 returns-2 c = judged (c .before .before) (ap ordered (c .enum-told .given .1))
 
 returns-3 : tie.Need-returns-3
-returns-3 c = c .points .ensures ∙ ap (λ (k : ℕ). cond (eqb (c .before .before .before .before .before .before .before .before .before .number-at3 .result) k) 1 0) (c .before .number .ensures .0) ∙ judged (c .before .before .before .before .before) (ap ordered (c .before .before .before .v .given .1))
+returns-3 c =
+    let g = c .before .before .before .before .before in
+    c .points .ensures ∙ ap (λ (k : ℕ). cond (eqb (g .before .before .before .before .number-at3 .result) k) 1 0) (c .before .number .ensures .0) ∙ judged g (ap ordered (c .before .before .before .v .given .1))
 
 pub mark-at-spec : {M : Type 1} → statement M
 mark-at-spec =
