@@ -1,3 +1,3 @@
 mod Row
 mod Loop
-pub mod Judged
+mod Rest

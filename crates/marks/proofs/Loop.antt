@@ -22,12 +22,12 @@ pub record To (n m : ℕ) (clocks lines old : List ℕ) (k : ℕ) (slots : List 
   pub small : total ≤ j
   pub long : length slots ≡ length old
 
-module _ (n m : ℕ) (clocks lines old : List ℕ) (k : ℕ) where
+module _ {n m : ℕ} {clocks lines old : List ℕ} {k : ℕ} where
   pub to-start : To n m clocks lines old k old 0 0
   unfolding upto count
   to-start = record { high = omega arith; is = refl; sum = refl; small = omega arith; long = refl }
 
-  module _ (slots : List ℕ) (total j : ℕ) (t : To n m clocks lines old k slots total j) where
+  module _ {slots : List ℕ} {total j : ℕ} (t : To n m clocks lines old k slots total j) where
     abbrev p : ℕ → Bool
     p i = row-right n m clocks (line-at lines i)
 
@@ -45,8 +45,8 @@ module _ (n m : ℕ) (clocks lines old : List ℕ) (k : ℕ) where
         let f = row-mark n m clocks lines in
         rw e (rw zero-add at (stored slots old 0 j (f j) (row-marks n m clocks lines j) (t .is) (sym (length-upto f j))))
 
-    pub to-more : (x y : ℕ) → x ≡ row-mark n m clocks lines j → y ≡ x → j < k → To n m clocks lines old k (set slots j x) (total + y) (j + 1)
-    to-more x y e q l =
+    pub to-more : {x y : ℕ} → x ≡ row-mark n m clocks lines j → y ≡ x → j < k → To n m clocks lines old k (set slots j x) (total + y) (j + 1)
+    to-more {x} {y} e q l =
         let s : total + y ≡ row-total n m clocks lines (suc j) = one-more y (q ∙ e) in
         let o : set slots j x ≡ sets old 0 (row-marks n m clocks lines (suc j)) = store x e in
         let next : suc j ≡ j + 1 = sym (add-one j) in

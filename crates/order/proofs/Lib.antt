@@ -1,4 +1,4 @@
-mod Judging
+pub mod Judging
 mod Asked
 mod Linked
 mod OfSheet

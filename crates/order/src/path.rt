@@ -52,7 +52,7 @@ fn learner(terms: Terms, list: &[u8], clocks: &[u16], first: Position, second: P
         × (process-at (now list) (second .0) ≢ process-at (now list) (first .0)) ⌝ }
     ensures { λ r. ⌜ r .0 ≡ paper.learner (accepted-of (stated terms) (now (list .entry))) (first .0) (second .0) ⌝ }
 {
-    // Two numbers, since the loop's invariant can name no parameter that is a struct.
+    // Two numbers, since the loop's invariant can name no struct that the loop does not use.
     let a = first.0;
     let b = second.0;
     let p = process_at(list, Position(a));

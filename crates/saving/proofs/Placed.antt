@@ -9,7 +9,7 @@ use borrow.Author.Tests.{lt-ltb, le-ltb}
 use Rattle.paper.specs.Buffers.{Work}
 use Rattle.paper.specs.Refusals.{Refusal, of-call, refused, done}
 use Rattle.paper.specs.Savings.{Counts, Saving, no-messages, percent, saving, stored}
-use Rattle.course.specs.Said.{late}
+use Rattle.course.specs.Said.{wiped}
 use Rattle.saving.specs.Slots.{placing}
 
 pub put-none : (s : Saving) (out : List Float) → s ≡ no-messages → out ≡ stored s out
@@ -29,11 +29,11 @@ put-nowhere (percent x) (y ∷ out) h = let z : ⊥ = omega arith in absurd z
 
 module _ (c : Counts) (w : Work) (out : List Float) where
   pub placing-late :
-      (given : Refusal) (w′ : Work) → length out < 1 → given ≡ of-call 21 → w′ ≡ late (c .processes) (c .events) w
-      → (refused given, w′, out) ≡ placing c w out
-  placing-late given w′ h g e = rw (lt-ltb (length out) 1 h) (λ i. (refused (g i), e i, out))
+      {given : Refusal} {w′ : Work} → length out < 1 → given ≡ of-call 21 → w′ ≡ wiped (c .processes) (c .events) w
+      → ((refused given, w′), out) ≡ placing c w out
+  placing-late h g e = rw (lt-ltb (length out) 1 h) (λ i. ((refused (g i), e i), out))
 
-  pub placing-done : (s : Saving) (out′ : List Float) → 1 ≤ length out → s ≡ saving c → out′ ≡ stored s out → (done s, w, out′) ≡ placing c w out
-  placing-done s out′ h e o =
-      let p : out′ ≡ stored (saving c) out = o ∙ ap (λ x. stored x out) e in
-      rw (le-ltb (length out) 1 h) (λ i. (done (e i), w, p i))
+  pub placing-done : {s : Saving} {out′ : List Float} → 1 ≤ length out → s ≡ saving c → out′ ≡ stored s out → ((done s, w), out′) ≡ placing c w out
+  placing-done h e o =
+      let p = o ∙ ap (λ x. stored x out) e in
+      rw (le-ltb (length out) 1 h) (λ i. ((done (e i), w), p i))

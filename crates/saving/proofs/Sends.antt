@@ -10,8 +10,11 @@ use Rattle.paper.specs.Order.{event-of}
 use Rattle.paper.specs.Savings.{sends}
 use Rattle.paper.specs.Stamp.{count}
 use Rattle.paper.proofs.Laws.Masks.{count-same}
-use Rattle.course.specs.Said.{of-list}
-use Rattle.order.specs.Stands.{Stands}
+use Rattle.paper.specs.Buffers.{Work}
+use Rattle.paper.specs.Machine.{accepted-of}
+use Rattle.paper.specs.Stands.{Stands}
+use Rattle.paper.specs.Terms.{Terms}
+use Rattle.paper.proofs.Stands.{all, event-there}
 use Rattle.saving.specs.Slots.{is-send-at, slot-sends}
 
 pub none-sent : (list : List ℕ) → 0 ≡ slot-sends list 0
@@ -27,8 +30,8 @@ sent-more list i k x e f = rw (add-one, e, f) (go (is-send-at list i))
     go false = omega arith
 
 -- Each event of an accepted list stands where its bytes do.
-pub sends-stand : (n : ℕ) (list clocks : List ℕ) → Stands n list clocks → slot-sends list (how-many list) ≡ sends (of-list n list)
+pub sends-stand : {t : Terms} {list : List ℕ} {w w′ : Work} → Stands t list w w′ → slot-sends list (how-many list) ≡ sends (accepted-of t list)
 unfolding sends event-at
-sends-stand n list clocks s =
-    count-same (is-send-at list) (λ a. is-send (event-of (of-list n list) a)) (how-many list)
-    (λ a h. sym (ap is-send (s .event a h))) ∙ ap (count (λ a. is-send (event-of (of-list n list) a))) (sym (s .all))
+sends-stand {t} {list} s =
+    count-same (is-send-at list) (λ a. is-send (event-of (accepted-of t list) a)) (how-many list)
+    (λ a h. sym (ap is-send (event-there s a h))) ∙ ap (count (λ a. is-send (event-of (accepted-of t list) a))) (sym (all s))

@@ -11,7 +11,7 @@ use Rattle.paper.specs.Event.{send}
 use Rattle.paper.specs.Refusals.{Outcome, refused, done, of-call}
 use Rattle.paper.specs.Savings.{Counts, Saving, saving, stored}
 use Rattle.paper.specs.Stamp.{count}
-use Rattle.course.specs.Said.{late}
+use Rattle.course.specs.Said.{wiped}
 
 -- Whether the event at i is a send, and how many of the first m are.
 abbrev pub is-send-at : List ℕ → ℕ → Bool
@@ -21,6 +21,6 @@ abbrev pub slot-sends : List ℕ → ℕ → ℕ
 slot-sends list m = count (is-send-at list) m
 
 -- What is left to check and to do for the counts c with the work buffers w of their sheet.
-abbrev pub placing : Counts → Work → List Float → Outcome Saving × Work × List Float
+abbrev pub placing : Counts → Work → List Float → (Outcome Saving × Work) × List Float
 placing c w out =
-    cond (ltb (length out) 1) (refused (of-call 21), late (c .processes) (c .events) w, out) (done (saving c), w, stored (saving c) out)
+    cond (ltb (length out) 1) ((refused (of-call 21), wiped (c .processes) (c .events) w), out) ((done (saving c), w), stored (saving c) out)

@@ -70,15 +70,16 @@ fn sends_in(list: &[u8]) -> usize
 // The counts of a sheet.
 pub fn count(sheet: &[u8], clocks: &mut [u16], masks: &mut [u32], values: &mut [u16]) -> Counted
     ensures { λ r. ⌜ (counted r, work (now (clocks .exit)) (now (masks .exit)) (now (values .exit)))
-        ≡ paper.counting (now (sheet .entry)) (work (now (clocks .entry)) (now (masks .entry)) (now (values .entry))) ⌝ }
+        ≡ paper.tallying (now (sheet .entry)) (work (now (clocks .entry)) (now (masks .entry)) (now (values .entry))) ⌝ }
 {
     match sheet::read(sheet, clocks, masks, values) {
         Reading::Refused(r) => Counted::Refused(r),
         Reading::Done(c) => {
+            let terms = c.terms;
             let from = c.offset;
             let sends = sends_in(&sheet[from..from + c.size]);
             Counted::Done(Counts {
-                processes: c.processes,
+                processes: terms.processes,
                 events: c.size / 8,
                 sends: sends,
                 carried: c.carried,
@@ -134,7 +135,7 @@ fn place(
     percent: &mut [f64],
 ) -> Saved
     requires { ⌜ Bounds (counts c) ⌝ }
-    ensures { λ r. ⌜ (saved r, work (now (clocks .exit)) (now (masks .exit)) (now (values .exit)), now (percent .exit))
+    ensures { λ r. ⌜ ((saved r, work (now (clocks .exit)) (now (masks .exit)) (now (values .exit))), now (percent .exit))
         ≡ placing (counts c) (work (now (clocks .entry)) (now (masks .entry)) (now (values .entry))) (now (percent .entry)) ⌝ }
 {
     if percent.len() < 1 {
@@ -154,7 +155,7 @@ pub fn store(
     values: &mut [u16],
     percent: &mut [f64],
 ) -> Saved
-    ensures { λ r. ⌜ (saved r, work (now (clocks .exit)) (now (masks .exit)) (now (values .exit)), now (percent .exit))
+    ensures { λ r. ⌜ ((saved r, work (now (clocks .exit)) (now (masks .exit)) (now (values .exit))), now (percent .exit))
         ≡ paper.storing (now (sheet .entry)) (work (now (clocks .entry)) (now (masks .entry)) (now (values .entry))) (now (percent .entry)) ⌝ }
 {
     match count(sheet, clocks, masks, values) {

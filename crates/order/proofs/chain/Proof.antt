@@ -13,12 +13,15 @@ use Rattle.order.proofs.Linked.{chain-refused, chain-done}
 use Rattle.order.proofs.chain.Statement.{statement}
 use Rattle.order.proofs.chain.Tie as tie
 
--- The function's entry and the slots, from behind the strict course.
+-- The function's entry and the slots, from behind the strict course; and the course, from where its answer is known.
 abbrev entry : tie.After-strict → tie.Start
 entry c = c .before .before .before .before .before .before .before .before .before
 
 abbrev slots : tie.After-strict → Work
 slots c = let t = c .strict .last in work (t .1 .1 .0) (t .1 .1 .1 .0) (t .1 .1 .1 .1 .0)
+
+abbrev course : tie.After-enum-told → tie.After-strict
+course c = c .before .before .before .before .before .before .before .before
 
 -- What the course ended with, by the case that was met.
 ended :
@@ -27,13 +30,16 @@ ended :
 ended c e = ap (λ (r : Outcome ℕ). (r, slots c)) (sym e) ∙ c .strict .ensures
 
 linking-requires : tie.Need-linking-requires
-linking-requires c κs = let s = c .before .before .before .before .before .before .before .before .before .before .before .before in (_, list-past _ _ _ (ended s (ap judged (c .before .before .before .before .enum-told .given .1))) .stands)
+linking-requires c κs = let k = c .before .before .before .before in (_, list-past _ _ _ (ended (course k) (ap judged (k .enum-told .given .1))) .stands)
 
 returns : tie.Need-returns
 returns c = chain-refused _ _ _ _ _ _ (ended (c .before .before .before .before .before .before .before .before .before) (ap judged (c .before .r .given .1)))
 
 returns-2 : tie.Need-returns-2
-returns-2 c = chain-done _ _ _ _ _ _ (ended (c .before .before .before .before .before .before .before .before .before .before .before .before .before .before .before .before .before .before .before .before .before) (ap judged (c .before .before .before .before .before .before .before .before .before .before .before .before .before .enum-told .given .1))) (c .before .before .before .before .before .before .before .before .linking .ensures)
+returns-2 c =
+    let q = c .before .before .before .before .before .before .before .before in
+    let k = q .before .before .before .before .before in
+    chain-done _ _ _ _ _ _ (ended (course k) (ap judged (k .enum-told .given .1))) (q .linking .ensures)
 
 pub chain-spec : {M : Type 1} → statement M
 chain-spec =

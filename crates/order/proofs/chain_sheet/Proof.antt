@@ -41,7 +41,9 @@ returns : tie.Need-returns
 returns c = chain-refused _ _ _ _ (refuses _ _ (c .before .r .given .1) (c .before .before .before .before .before .before .before .before .before .read .ensures)) _
 
 returns-2 : tie.Need-returns-2
-returns-2 c = chain-done (sheet-accepted (c .before .before .before .before .before .before .before .before .before .before .before .before .before .before .before .before .before)) (c .before .before .before .before .before .before .before .before .linking .ensures)
+returns-2 c =
+    let q = c .before .before .before .before .before .before .before .before in
+    chain-done (sheet-accepted (q .before .before .before .before .before .before .before .before .before)) (q .linking .ensures)
 
 pub chain-sheet-spec : {M : Type 1} → statement M
 chain-sheet-spec =

@@ -38,7 +38,9 @@ returns : tie.Need-returns
 returns c = compare-refused _ _ _ _ (refuses _ _ (c .before .r .given .1) (c .before .before .before .before .before .before .before .before .before .read .ensures))
 
 returns-2 : tie.Need-returns-2
-returns-2 c = compare-done (sheet-accepted (c .before .before .before .before .before .before .before .before .before .before .before .before .before .before)) (c .before .before .before .before .before .before .comparison .ensures)
+returns-2 c =
+    let q = c .before .before .before .before .before .before in
+    compare-done (sheet-accepted (q .before .before .before .before .before .before .before .before)) (q .comparison .ensures)
 
 pub compare-sheet-spec : {M : Type 1} → statement M
 compare-sheet-spec =

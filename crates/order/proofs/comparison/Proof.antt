@@ -7,7 +7,9 @@ use Rattle.order.proofs.comparison.Statement.{statement}
 use Rattle.order.proofs.comparison.Tie as tie
 
 returns : tie.Need-returns
-returns c = compare-none (c .before .before .before .before .before .before .before .before .before .before .before .if1 .taken) (c .of-call .ensures) (c .before .before .before .before .before .before .before .clear .ensures)
+returns c =
+    let k = c .before .before .before .before .before .before .before in
+    compare-none (k .before .before .before .before .if1 .taken) (c .of-call .ensures) (k .clear .ensures)
 
 returns-2 : tie.Need-returns-2
 returns-2 c = compare-judged (c .before .before .before .before .before .if1 .left) (ap ordered (sym (c .before .r .given .1)) ∙ c .before .before .before .judge .ensures)

@@ -1,4 +1,4 @@
--- 21 where there is no slot, and otherwise the saving in its slot.
+-- 21, or the percentage in its slot.
 use denote.Ref.{now}
 use native.Mathlib.Omega.{arith}
 use Rattle.course.specs.Said.{work}
@@ -8,16 +8,22 @@ use borrow.Author.Needs.{needs}
 use Rattle.saving.proofs.place.Statement.{statement}
 use Rattle.saving.proofs.place.Tie as tie
 
+-- The function's entry, from each branch of the test.
+abbrev none : tie.Then1 → tie.Start
+none c = c .before .before .before .before .before
+
+abbrev some : tie.Else1 → tie.Start
+some c = c .before .before .before .before .before
+
 returns : tie.Need-returns
-returns c =
-    let a = c .before .before .before .before .before .before .before .before .before .before .before .before .before .before .before .before .args in
-    placing-late (counts (a .c)) (work (now (a .clocks)) (now (a .masks)) (now (a .values))) (now (a .percent)) _ _ (omega (arith, c .before .before .before .before .before .before .before .before .before .before .before .if1 .taken)) (c .of-call .ensures)
-    (c .before .before .before .before .before .before .before .clear .ensures)
+returns c = let t = c .before .before .before .before .before .before .before .before .before .before .before in
+    let a = none t .args in
+    placing-late (counts (a .c)) (work (now (a .clocks)) (now (a .masks)) (now (a .values))) (now (a .percent)) (omega (arith, t .if1 .taken)) (c .of-call .ensures) (c .before .before .before .before .before .before .before .clear .ensures)
 
 returns-2 : tie.Need-returns-2
-returns-2 c =
-    let a = c .before .before .before .before .before .before .before .before .before .before .args in
-    placing-done (counts (a .c)) (work (now (a .clocks)) (now (a .masks)) (now (a .values))) (now (a .percent)) _ _ (omega (arith, c .before .before .before .before .before .if1 .left)) (c .before .before .before .before .figure .ensures) (c .before .before .put .ensures)
+returns-2 c = let t = c .before .before .before .before .before in
+    let a = some t .args in
+    placing-done (counts (a .c)) (work (now (a .clocks)) (now (a .masks)) (now (a .values))) (now (a .percent)) (omega (arith, t .if1 .left)) (c .before .before .before .before .figure .ensures) (c .before .before .put .ensures)
 
 pub place-spec : {M : Type 1} → statement M
 place-spec =
