@@ -1,13 +1,9 @@
 -- Each event's piece is found where the pieces before it end.
 use Prim.Native.Nat.{_-_}
-use mathlib.Core.Path.{_≡_, _∙_}
+use mathlib.Core.Path.{_∙_}
 use native.Mathlib.Omega.{arith}
-use lib.ListN.{getD, drop}
 use borrow.Author.Needs.{needs}
 use borrow.Author.Tests.{not-true, not-false}
-use Rattle.clock.specs.Event.{kind-at}
-use Rattle.paper.specs.Reading.{begins}
-use Rattle.sheet.specs.Slots.{kind-piece}
 use Rattle.sheet.proofs.Compared.{Walked, walk-start, fits, walk-stop, walk-more, walk-end}
 use Rattle.sheet.proofs.stamps.compare.Statement.{statement}
 use Rattle.sheet.proofs.stamps.compare.Tie as tie
@@ -32,16 +28,11 @@ same-piece-requires c κs =
     let l = c .before .before .before in
     (l .loop .inv .inside, fits _ _ _ _ (l .before .before .before .before .before .pre) _ _ _ (l .loop .inv) (c .before .before .loop-test .taken))
 
--- Whether the piece of the event's own kind is recorded.
-said : (c : tie.After-same-piece Inv-loop μ-loop) → let l = c .before .before .before .before in let a = l .before .before .before .before .before .args in
-    c .same-piece .result ≡ begins (kind-piece (kind-at (a .list .now) (l .loop .i)) (getD (a .masks .now) (l .loop .i) 0) (a .values .now) (l .loop .place)) (drop (l .loop .at) (a .stamps .now))
-said c = rw (c .before .before .kind-at .ensures) at (c .same-piece .ensures)
-
 returns : tie.Need-returns Inv-loop μ-loop
 returns c =
     let l = c .before .before .before .before .before .before in
     c .of-event .ensures
-    ∙ walk-stop _ _ _ _ (l .before .before .before .before .before .pre) _ _ _ (l .loop .inv) (c .before .before .before .before .before .loop-test .taken) _ (said (c .before .before)) (not-true _ (c .before .if1 .taken))
+    ∙ walk-stop _ _ _ _ (l .before .before .before .before .before .pre) _ _ _ (l .loop .inv) (c .before .before .before .before .before .loop-test .taken) _ (c .before .before .same-piece .ensures) (not-true _ (c .before .if1 .taken))
 
 add-at : tie.Need-add-at Inv-loop μ-loop
 add-at c = omega (arith, c .before .before .before .before .before .before .loop .inv .inside)
@@ -54,8 +45,8 @@ add-place c =
 loop-again : tie.Need-loop-again Inv-loop μ-loop
 loop-again c =
     let l = c .before .before .before .before .before .before .before in
-    let size = rw (c .before .before .before .before .before .kind-at .ensures) at (c .before .piece-size .ensures .0) in
-    walk-more _ _ _ _ (l .before .before .before .before .before .pre) _ _ _ (l .loop .inv) (c .before .before .before .before .before .before .loop-test .taken) _ (said (c .before .before .before)) _ _ size (c .ones-in .ensures .0) (not-false _ (c .before .before .if1 .left))
+    walk-more _ _ _ _ (l .before .before .before .before .before .pre) _ _ _ (l .loop .inv) (c .before .before .before .before .before .before .loop-test .taken) _ (c .before .before .before .same-piece .ensures) _ _
+    (c .before .piece-size .ensures .0) (c .ones-in .ensures .0) (not-false _ (c .before .before .if1 .left))
 
 returns-2 : tie.Need-returns-2 Inv-loop μ-loop
 returns-2 c =
@@ -71,7 +62,8 @@ compare-spec =
     Inv-loop
     μ-loop
     loop-holds
-    (λ c κs. search needs)
+    (λ c. search needs)
+    (λ c. search needs)
     mul-mask
     shared-slice-read-mask
     same-piece-requires
