@@ -1,4 +1,4 @@
--- The line that is printed for each case of counting is that of its outcome.
+-- The line that is printed for each case of the tally is that of its outcome.
 use Prim.Native.Nat.{ℕ, _<_}
 use native.Mathlib.Nat.{mul-pos}
 use native.Mathlib.Omega.{arith}
@@ -6,12 +6,12 @@ use mathlib.Core.Path.{_≡_, refl, ap}
 use mathlib.Core.Logic.{_≢_}
 use mathlib.Core.List.{List}
 use borrow.Author.Tests.{eq-eqb, ne-eqb}
-use Rattle.paper.specs.Buffers.{Work}
+use Rattle.paper.specs.Buffers.{Work, ample}
 use Rattle.paper.specs.Refusals.{Outcome}
-use Rattle.paper.specs.Savings.{Counts, whole, hundredths, counting}
+use Rattle.paper.specs.Savings.{Counts, whole, hundredths, tallying}
 use Rattle.paper.proofs.SavedRight.{Bounds}
 use Rattle.lines.specs.Savings.{no-messages-line, saved-line}
-use Rattle.desk.specs.Answers.{ample, text-of}
+use Rattle.desk.specs.Answers.{text-of}
 use Rattle.savings.specs.Answer.{counts-line, savings-answer}
 
 module _ (c : Counts) where
@@ -28,6 +28,6 @@ module _ (c : Counts) where
   some-whole b h = mul-pos (b .some) (omega arith)
 
 module _ (b : List ℕ) (after : Work) where
-  pub line-of : (o : Outcome Counts) → (o, after) ≡ counting b ample → text-of counts-line o ≡ savings-answer b
+  pub line-of : (o : Outcome Counts) → (o, after) ≡ tallying b ample → text-of counts-line o ≡ savings-answer b
   unfolding savings-answer
   line-of o e = ap (λ (x : Outcome Counts × Work). text-of counts-line (x .0)) e

@@ -2,7 +2,7 @@
 use Rattle.saving.specs.Said.{counts}
 use Rattle.saving.proofs.Rounded.{whole-few}
 use Rattle.savings.proofs.Lined.{none-line, some-line, some-whole}
-use Rattle.desk.proofs.Listed.{printed-as}
+use Rattle.desk.proofs.Printed.{printed-as}
 use borrow.Author.Needs.{needs}
 use Rattle.savings.proofs.answer.counts_text.Statement.{statement}
 use Rattle.savings.proofs.answer.counts_text.Tie as tie

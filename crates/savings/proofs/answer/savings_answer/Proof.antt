@@ -1,15 +1,14 @@
--- The line is that of the counting's outcome.
+-- The line is that of the tally's outcome.
 use mathlib.Core.Path.{_≡_, ap, sym, _∙_}
 use denote.Ref.{now}
-use Rattle.paper.specs.Buffers.{Work}
+use Rattle.paper.specs.Buffers.{Work, ample}
 use Rattle.paper.specs.Refusals.{done}
-use Rattle.paper.specs.Savings.{counting}
+use Rattle.paper.specs.Savings.{tallying}
 use Rattle.course.specs.Said.{work}
 use Rattle.saving.specs.Said.{counts, counted}
 use Rattle.saving.proofs.Told.{count-bounds}
-use Rattle.desk.specs.Answers.{ample}
 use Rattle.savings.proofs.Lined.{line-of}
-use Rattle.desk.proofs.Listed.{printed-as}
+use Rattle.desk.proofs.Printed.{printed-as}
 use borrow.Author.Needs.{needs}
 use Rattle.savings.proofs.answer.savings_answer.Statement.{statement}
 use Rattle.savings.proofs.answer.savings_answer.Tie as tie
@@ -18,7 +17,7 @@ use Rattle.savings.proofs.answer.savings_answer.Tie as tie
 abbrev slots : tie.After-count → Work
 slots c = let t = c .count .last in work (t .1 .0) (t .1 .1 .0) (t .1 .1 .1 .0)
 
-accepted : (c : tie.After-c2) → (done (counts (c .c2 .given .0 .0)), slots (c .before .before .before .before .before)) ≡ counting (now (c .before .before .before .before .before .before .before .before .before .before .args .sheet)) ample
+accepted : (c : tie.After-c2) → (done (counts (c .c2 .given .0 .0)), slots (c .before .before .before .before .before)) ≡ tallying (now (c .before .before .before .before .before .before .before .before .before .before .args .sheet)) ample
 accepted c = ap (λ r. (counted r, slots (c .before .before .before .before .before))) (sym (c .c2 .given .1)) ∙ c .before .before .before .before .before .count .ensures
 
 counts-text-requires : tie.Need-counts-text-requires
