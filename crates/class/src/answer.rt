@@ -14,9 +14,25 @@ pub fn class_answer(terms: Terms, list: &[u8], out: &mut [u8; PAGE]) -> usize
     let mut masks = [0u32; 512];
     let mut values = [0u16; 16384];
     let mut answers = [0u8; 512];
-    let c = course::class(terms, list, &mut clocks, &mut masks, &mut values, &mut answers);
+    let c = course::class(
+        terms,
+        list,
+        &mut clocks,
+        &mut masks,
+        &mut values,
+        &mut answers,
+    );
     match c {
         Classed::Refused(r) => lines::refusal_text(r, out),
-        Classed::Done(k, v) => lines::class_text(terms.processes, list, &answers, &clocks, &masks, k, v, out),
+        Classed::Done(k, v) => lines::class_text(
+            terms.processes,
+            list,
+            &answers,
+            &clocks,
+            &masks,
+            k,
+            v,
+            out,
+        ),
     }
 }

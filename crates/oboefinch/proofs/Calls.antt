@@ -1,46 +1,42 @@
 -- The fields of every call are small, whatever is lent.
-use Prim.Native.Nat.{ℕ, _+_, _≤_}
+use Prim.Native.Nat.{ℕ, min, _≤_}
 use native.Mathlib.Nat.{mul-le-mul}
 use native.Mathlib.Omega.{arith}
-use mathlib.Core.Path.{_≡_, refl, _∙_}
-use mathlib.Core.Logic.{_⊎_, inl, inr}
+use mathlib.Core.Path.{_≡_, refl}
 use mathlib.Core.Bool.{Bool, _||_, not}
-use mathlib.Core.List.{List}
+use mathlib.Core.List.{List, [], _∷_}
 use lib.Dec.{eqb, ltb}
 use lib.Ieee.{Float}
-use lib.ListN.{length, drop, length-append, length-take}
-use Rattle.paper.specs.Buffers.{Work, short, entries}
-use Rattle.paper.specs.Bytes.{two-bytes, four-bytes, text}
-use Rattle.paper.specs.Chain.{chain}
-use Rattle.paper.specs.Class.{list-checks, class-by, class, class-lamport}
+use lib.ListN.{length, drop, length-take}
+use Rattle.paper.specs.Buffers.{Work, nine, entries}
+use Rattle.paper.specs.Class.{list-checks, class-checks, classed-of, class, class-lamport}
 use Rattle.paper.specs.Clock.{Clock}
-use Rattle.paper.specs.Event.{Event, how-many, events-of}
-use Rattle.paper.specs.Machine.{start, answers, clocked}
-use Rattle.paper.specs.Marking.{line-count, line-at, wrong-lines, is-right, total, marking-refusal, marking}
+use Rattle.paper.specs.Event.{how-many, events-of}
+use Rattle.paper.specs.Machine.{start, answers-of, accepted-of}
+use Rattle.paper.specs.Marking.{line-count, line-at, wrong-lines, is-right, total, marking-checks, marking}
 use Rattle.paper.specs.Order as order
-use Rattle.paper.specs.Questions.{ordering, list-refusal, comparing, comparing-refusal, no-such, judged, chaining-refusal, chaining}
-use Rattle.paper.specs.Questions.{writing-refusal, writing}
-use Rattle.paper.specs.Reading.{wrong-count, header-checks, first-refused, read-of, reading-refusal, reading, reading-lamport}
-use Rattle.paper.specs.Refusals.{first, of-call, refused}
-use Rattle.paper.specs.Savings.{counts, Saving, no-messages, percent, saving, storing-refusal, storing}
-use Rattle.paper.specs.Sheet.{processes-in, list-offset, list-size, list-in, stamps-in, piece, pieces, stamps-part, header, written}
+use Rattle.paper.specs.Questions.{ordering, strict-checks, asked, comparing, chained, chaining, writing-checks, writing}
+use Rattle.paper.specs.Reading.{header-checks, first-refused, read-of, reading-checks, reading, reading-lamport}
+use Rattle.paper.specs.Refusals.{first, of-call, Refusal, refusal-of, outcome}
+use Rattle.paper.specs.Savings.{Saving, no-messages, percent, saving, counts-in, storing-checks, storing}
+use Rattle.paper.specs.Sheet.{processes-in, terms-in, list-offset, list-size, list-in, stamps-in, piece, pieces, written}
 use Rattle.paper.specs.Stamp.{stamps}
+use Rattle.paper.specs.Terms.{Terms, wrong-count}
 use Rattle.paper.proofs.Laws.Masks.{count-le}
-use Rattle.paper.proofs.Laws.Runs.{clocked-few, clocked-all, length-events}
+use Rattle.paper.proofs.Laws.Runs.{clocked-few, length-events}
 use Rattle.paper.proofs.Laws.Tables.{cond-cases}
 use Rattle.paper.proofs.Lent.{chain-few}
 use Rattle.paper.proofs.Lent.Stamps.{slots-fit}
-use Rattle.paper.proofs.ReadExactly.{reading-number}
-use Rattle.paper.proofs.RoundTrip.{list-accepted, writing-number}
-use Rattle.paper.proofs.Sheets.Checks.{not-below, below, equal, neither, in-order, last, both, room, list-passed}
-use Rattle.paper.proofs.Sheets.Header.{header-says}
+use Rattle.paper.proofs.NeverShort.{few-lines}
+use Rattle.paper.proofs.ReadExactly.{early-says}
+use Rattle.paper.proofs.RoundTrip.{list-early, list-accepted, writing-number}
+use Rattle.paper.proofs.Sheets.Checks.{in-order, placed}
+use Rattle.paper.proofs.Sheets.Header.{Header}
+use Rattle.paper.proofs.Sheets.Layout.{written-long}
 use Rattle.paper.proofs.Sheets.Sizes.{stamps-short}
 use Rattle.paper.proofs.TotalRight.{marking-number}
-use Rattle.paper.proofs.Verdicts.{verdict-right}
-use Rattle.sheet.proofs.WithNumbers.{nine-or-plain}
-use Rattle.marks.proofs.Judged.{short-lines}
 use Rattle.oboefinch.specs.Packed.{read-fields, class-fields, write-fields, verdict-fields, chain-fields, mark-fields, saving-fields, fields}
-use Rattle.oboefinch.proofs.Refusals.{Mild, capped, call-mild, then-mild, mild-small, events-mild, stamps-mild, zip-few}
+use Rattle.oboefinch.proofs.Refusals.{Mild, capped, call-mild, then-mild, checks-mild, mild-small, lacking-capped, events-mild, stamps-mild, zip-few}
 use Rattle.oboefinch.proofs.Small.{Small, outcome-small}
 
 verdict-few : (n : ℕ) (v w : Clock) → order.verdict n v w ≤ 4
@@ -65,150 +61,153 @@ saving-small no-messages = record { number = omega arith; x = omega arith; y = o
 saving-small (percent p) = record { number = omega arith; x = omega arith; y = omega arith; z = omega arith }
 
 -- How many events a list has accepted, and how many values their stamps carry.
-record Few (n : ℕ) (list : List ℕ) : Type 0 where
-  accepted : length (clocked n start (events-of list)) ≤ 512
-  carried : entries (clocked n start (events-of list)) ≤ 16384
+record Few (t : Terms) (list : List ℕ) : Type 0 where
+  offered : length (events-of list) ≤ 512
+  accepted : length (accepted-of t list) ≤ 512
+  carried : entries (accepted-of t list) ≤ 16384
 
-few : (n : ℕ) (list : List ℕ) → n ≤ 32 → how-many list ≤ 512 → Few n list
-few n list small brief =
+few : (t : Terms) (list : List ℕ) → t .processes ≤ 32 → how-many list ≤ 512 → Few t list
+few t list small brief =
     let es = events-of list in
-    let a : length (clocked n start es) ≤ 512 = omega (arith, clocked-few n es start, length-events (how-many list) list) in
-    record {
-      accepted = a;
-      carried = omega (arith, slots-fit n small es (omega (arith, length-events (how-many list) list)) .values, mul-le-mul small a);
-    }
+    let o : length es ≤ 512 = omega (arith, length-events (how-many list) list) in
+    let a : length (accepted-of t list) ≤ 512 = omega (arith, clocked-few t es (start t)) in
+    record { offered = o; accepted = a; carried = omega (arith, slots-fit t small es o .values, mul-le-mul small a) }
 
-module _ (n : ℕ) (list : List ℕ) (w : Work) where
+-- Calls on a list that is lent directly.
+module _ (t : Terms) (list : List ℕ) (w : Work) where
+  list-few : (more : List (List ℕ)) → strict-checks t list w more .early ≡ 0 → Few t list
+  list-few more z =
+      let (listed, room) = list-early t list w more .0 z in
+      let (m, brief, size) = listed .whole-records in
+      few t list (listed .processes .1) (omega arith)
+
+  list-capped : (more : List (List ℕ)) → let e = list-checks t list (nine t (how-many list) w more) in min 255 e ≡ e
+  list-capped more = simp (capped, lacking-capped (how-many list) more)
+
   -- Class mode, whatever else 9 asks for.
-  class-by-small : (told : List ℕ) (scant : Bool) → Small (fields class-fields (class-by (list-checks n list scant) n list w told .0))
-  class-by-small told scant =
-      outcome-small class-fields (of-call (list-checks n list scant)) _
-      (mild-small _ (call-mild (list-checks n list scant) (simp capped)))
+  class-by : (more : List (List ℕ)) → Small (fields class-fields (outcome (refusal-of (class-checks t list w more)) (classed-of t list)))
+  class-by more =
+      let c = class-checks t list w more in
+      outcome-small class-fields (refusal-of c) (classed-of t list) (mild-small _ (checks-mild c (list-capped more) (λ z. call-mild 0 refl)))
       (λ h.
-      let (count, ((events, brief, size), _)) = list-passed n list scant ((λ q. q), (λ q. q)) .0 h in
-      let f = few n list (count .1) (omega arith) in
+      let f = list-few more (placed c .0 h .0) in
       record { number = omega arith; x = omega arith; y = omega (arith, f .accepted); z = omega (arith, f .carried) })
 
-  pub class-small : (told : List ℕ) → Small (fields class-fields (class n list w told .0))
+  pub class-small : (answered : List ℕ) → Small (fields class-fields (class t list w answered .0 .0))
   unfolding class
-  class-small told = class-by-small told (short n (how-many list) w || ltb (length told) (how-many list))
+  class-small answered = class-by (answered ∷ [])
 
-  pub class-lamport-small : (told numbers : List ℕ) → Small (fields class-fields (class-lamport n list w told numbers .0 .0))
+  pub class-lamport-small : (answered numbers : List ℕ) → Small (fields class-fields (class-lamport t list w answered numbers .0 .0))
   unfolding class-lamport
-  class-lamport-small told numbers =
-      class-by-small told (short n (how-many list) w || ltb (length told) (how-many list) || ltb (length numbers) (how-many list))
+  class-lamport-small answered numbers = class-by (answered ∷ numbers ∷ [])
 
-  -- 4, 8, 9, events in order.
-  list-mild : Mild (list-refusal n list w)
-  unfolding list-refusal
-  list-mild =
-      let scant = short n (how-many list) w in
-      then-mild (of-call (list-checks n list scant)) _ (call-mild (list-checks n list scant) (simp capped))
-      (λ h.
-      let (count, ((events, brief, size), _)) = list-passed n list scant (room n (how-many list) w) .0 h in
-      events-mild n (events-of list) start 0 (omega (arith, length-events (how-many list) list)))
+  -- Events in order.
+  late-mild : strict-checks t list w [] .early ≡ 0 → Mild (first-refused 0 (answers-of t list))
+  late-mild z = events-mild t (events-of list) (start t) 0 (omega (arith, list-few [] z .offered))
 
-  pub comparing-small : (a b : ℕ) → Small (fields verdict-fields (comparing n list w a b .0))
-  unfolding comparing comparing-refusal
+  asked-mild : (a b : ℕ) → strict-checks t list w [] .early ≡ 0 → Mild (asked (strict-checks t list w []) list a b .late)
+  asked-mild a b z = then-mild (first-refused 0 (answers-of t list)) _ (late-mild z) (λ h. call-mild _ (simp capped))
+
+  pub comparing-small : (a b : ℕ) → Small (fields verdict-fields (comparing t list w a b .0))
+  unfolding comparing
   comparing-small a b =
-      outcome-small verdict-fields (comparing-refusal n list w a b) _
-      (mild-small _ (then-mild (list-refusal n list w) _ list-mild (λ h. call-mild (first (no-such list a b) 20 0) (simp capped))))
-      (λ h. verdict-small n _ _)
+      let c = asked (strict-checks t list w []) list a b in
+      outcome-small verdict-fields (refusal-of c) _ (mild-small _ (checks-mild c (list-capped []) (asked-mild a b))) (λ h. verdict-small (t .processes) _ _)
 
-  pub chaining-small : (a b : ℕ) (out : List ℕ) → Small (fields chain-fields (chaining n list w a b out .0))
-  unfolding chaining chaining-refusal
+  pub chaining-small : (a b : ℕ) (out : List ℕ) → Small (fields chain-fields (chaining t list w a b out .0 .0))
+  unfolding chaining
   chaining-small a b out =
-      outcome-small chain-fields (chaining-refusal n list w a b out) _
-      (mild-small _ (then-mild (list-refusal n list w) _ list-mild (λ h. call-mild _ (simp capped))))
+      let c = chained (strict-checks t list w []) t list a b out in
+      outcome-small chain-fields (refusal-of c) _
+      (mild-small _ (checks-mild c (list-capped []) (λ z. then-mild (asked (strict-checks t list w []) list a b .late) _ (asked-mild a b z) (λ h. call-mild _ (simp capped)))))
       (λ h.
-      let (small, few, _) = chain-few n list w a b out h in
+      let (path, slots) = chain-few (strict-checks t list w []) t list w (λ q. list-accepted t list w [] .0 q .0) a b out h in
+      let small = list-early t list w [] .0 (placed c .0 h .0) .0 .processes .1 in
       record { number = omega arith; x = omega arith; y = omega arith; z = omega arith })
 
-  -- A written sheet has a header of 24 bytes, the list and the stamps.
-  written-long : length (written n list) ≡ 24 + (length list + length (stamps-part n list))
-  unfolding written header text two-bytes four-bytes
-  written-long = omega (arith, length-append list (stamps-part n list))
-
-  pub writing-small : (out : List ℕ) → Small (fields write-fields (writing n list w out .0))
-  unfolding writing writing-refusal
+  pub writing-small : (out : List ℕ) → Small (fields write-fields (writing t list w out .0 .0))
+  unfolding writing
   writing-small out =
-      outcome-small write-fields (writing-refusal n list w out) _
-      (mild-small _ (then-mild (list-refusal n list w) _ list-mild (λ h. call-mild (first (ltb (length out) (length (written n list))) 21 0) (simp capped))))
+      let c = writing-checks t list w out in
+      outcome-small write-fields (refusal-of c) _
+      (mild-small _ (checks-mild c (list-capped []) (λ z. then-mild (first-refused 0 (answers-of t list)) _ (late-mild z) (λ h. call-mild _ (simp capped)))))
       (λ h.
-      let ((given, roomy), fits) = writing-number n list w out .0 h in
-      let (events, brief, size) = given .whole-records in
-      record { number = omega arith; x = omega arith; y = omega arith; z = omega (arith, written-long, stamps-short n list (omega arith)) })
+      let ((given, room), fits) = writing-number t list w out .0 h in
+      let (m, brief, size) = given .listed .whole-records in
+      record { number = omega arith; x = omega arith; y = omega arith; z = omega (arith, written-long t list, stamps-short t list (omega arith)) })
 
+-- Past its header, a sheet has at most 512 events.
+sheet-events : (b : List ℕ) → Header b → how-many (list-in b) ≤ 512
+sheet-events b head = let (m, brief, size) = head .whole-records in omega (arith, length-take (list-size b) (drop (list-offset b) b))
+
+-- Calls on a sheet.
 module _ (b : List ℕ) (w : Work) where
-  abbrev processes : ℕ
-  processes = processes-in b
+  abbrev t : Terms
+  t = terms-in b
 
-  abbrev events : List Event
-  events = events-of (list-in b)
+  abbrev list : List ℕ
+  list = list-in b
 
-  -- Past the header, at most 512 events.
-  few-events : (c : ℕ) → header-checks b c ≡ 0 → length events ≤ 512
-  few-events c h =
-      let (head, _) = header-says b c (λ q. q, λ q. q) .0 h in
-      let (m, brief, size) = head .whole-records in
-      omega (arith, length-events (how-many (list-in b)) (list-in b), length-take (list-size b) (drop (list-offset b) b))
+  sheet-few : (more : List (List ℕ)) → reading-checks b w more .early ≡ 0 → Few t list
+  sheet-few more z =
+      let (head, room) = early-says b w more .0 z in
+      few t list (head .right .processes .1) (sheet-events b head)
 
-  header-mild : (scant : Bool) → Mild (of-call (header-checks b (first scant 9 0)))
+  sheet-capped : (more : List (List ℕ)) → let e = reading-checks b w more .early in min 255 e ≡ e
   unfolding header-checks
-  header-mild scant = call-mild _ (simp capped)
+  sheet-capped more = simp (capped, lacking-capped (how-many list) more)
 
-  few-pieces : length (pieces (clocked processes start events)) ≤ length events
+  few-pieces : length (pieces (accepted-of t list)) ≤ length (accepted-of t list)
   unfolding pieces
-  few-pieces =
-      let cs = clocked processes start events in
-      omega (arith, zip-few piece cs (stamps cs), clocked-few processes events start)
+  few-pieces = let cs = accepted-of t list in omega (arith, zip-few piece cs (stamps cs))
 
-  reading-mild : Mild (reading-refusal b w)
-  unfolding reading-refusal
-  reading-mild =
-      then-mild _ _ (header-mild (short processes (how-many (list-in b)) w))
+  sheet-mild : (more : List (List ℕ)) → reading-checks b w more .early ≡ 0 → Mild (reading-checks b w more .late)
+  sheet-mild more z =
+      let f = sheet-few more z in
+      then-mild (first-refused 0 (answers-of t list)) _ (events-mild t (events-of list) (start t) 0 (omega (arith, f .offered)))
+      (λ h. stamps-mild (pieces (accepted-of t list)) 0 (stamps-in b) (omega (arith, f .accepted, few-pieces)))
+
+  -- Reading, whatever else 9 asks for.
+  reading-by : (more : List (List ℕ)) → Small (fields read-fields (outcome (refusal-of (reading-checks b w more)) (read-of t list)))
+  unfolding read-of
+  reading-by more =
+      let c = reading-checks b w more in
+      outcome-small read-fields (refusal-of c) _ (mild-small _ (checks-mild c (sheet-capped more) (sheet-mild more)))
       (λ h.
-      let l = few-events _ h in
-      then-mild (first-refused 0 (answers processes start events)) _ (events-mild processes events start 0 (omega arith))
-      (λ g. stamps-mild (pieces (clocked processes start events)) 0 (stamps-in b) (omega (arith, l, few-pieces))))
+      let (head, room) = early-says b w more .0 (placed c .0 h .0) in
+      let f = sheet-few more (placed c .0 h .0) in
+      let brief = sheet-events b head in
+      record { number = omega arith; x = omega (arith, head .right .processes .1); y = omega arith; z = omega (arith, f .carried) })
 
   pub reading-small : Small (fields read-fields (reading b w .0))
-  unfolding reading read-of
-  reading-small =
-      outcome-small read-fields (reading-refusal b w) _ (mild-small _ reading-mild)
-      (λ h.
-      let (sheet, roomy) = reading-number b w .0 h in
-      let (m, brief, size) = sheet .whole-records in
-      let f = few processes (list-in b) (sheet .processes .2) (omega arith) in
-      record { number = omega arith; x = omega (arith, sheet .processes .2); y = omega arith; z = omega (arith, f .carried) })
+  unfolding reading
+  reading-small = reading-by []
 
-  -- Where Lamport numbers are asked for, the outcome is that of reading or 9.
   pub reading-lamport-small : (numbers : List ℕ) → Small (fields read-fields (reading-lamport b w numbers .0 .0))
-  reading-lamport-small numbers = go (nine-or-plain b w numbers)
-    where
-      go :
-          (reading-lamport b w numbers .0 ≡ reading b w) ⊎ (reading-lamport b w numbers .0 ≡ (refused (of-call 9), w))
-          → Small (fields read-fields (reading-lamport b w numbers .0 .0))
-      go (inl q) = rw q reading-small
-      go (inr q) = rw q (mild-small (of-call 9) (call-mild 9 refl))
+  unfolding reading-lamport
+  reading-lamport-small numbers = reading-by (numbers ∷ [])
 
   -- 30, as reading, 21; at most 200 lines, of which no more are right.
-  pub marking-small : (lines out : List ℕ) → Small (fields mark-fields (marking b lines w out .0))
-  unfolding marking marking-refusal total
+  pub marking-small : (lines out : List ℕ) → Small (fields mark-fields (marking b lines w out .0 .0))
+  unfolding marking total
   marking-small lines out =
-      let scant = ltb (length out) (line-count lines) in
-      outcome-small mark-fields (marking-refusal b lines w out) _
-      (mild-small _ (then-mild (of-call (first (wrong-lines lines) 30 0)) _ (call-mild (first (wrong-lines lines) 30 0) (simp capped))
-      (λ g. then-mild (reading-refusal b w) _ reading-mild (λ h. call-mild (first scant 21 0) (simp capped)))))
+      let c = marking-checks b lines w out in
+      outcome-small mark-fields (refusal-of c) _
+      (mild-small _ (checks-mild c (simp (capped, sheet-capped []))
+      (λ z. then-mild (reading-checks b w [] .late) _ (sheet-mild [] (past-thirty z)) (λ h. call-mild _ (simp capped)))))
       (λ h.
-      let short = short-lines lines (marking-number b lines w out .0 h .0) in
-      let few = count-le (λ j. is-right processes (clocked processes start events) (line-at lines j)) (line-count lines) in
+      let brief = few-lines lines (marking-number b lines w out .0 h .0) in
+      let right = count-le (λ j. is-right (processes-in b) (accepted-of t list) (line-at lines j)) (line-count lines) in
       record { number = omega arith; x = omega arith; y = omega arith; z = omega arith })
+    where
+      past-thirty : first (wrong-lines lines) 30 (reading-checks b w [] .early) ≡ 0 → reading-checks b w [] .early ≡ 0
+      past-thirty z = in-order (wrong-lines lines) 30 (reading-checks b w [] .early) (omega arith) (λ h. h, λ h. h) (λ h. h, λ h. h) .0 z .1
 
   -- As reading, 21; the two cases of a saving.
-  pub storing-small : (out : List Float) → Small (fields saving-fields (storing b w out .0))
-  unfolding storing storing-refusal
+  pub storing-small : (out : List Float) → Small (fields saving-fields (storing b w out .0 .0))
+  unfolding storing
   storing-small out =
-      outcome-small saving-fields (storing-refusal b w out) _
-      (mild-small _ (then-mild (reading-refusal b w) _ reading-mild (λ h. call-mild (first (ltb (length out) 1) 21 0) (simp capped))))
-      (λ h. saving-small (saving (counts processes (clocked processes start events))))
+      let c = storing-checks b w out in
+      outcome-small saving-fields (refusal-of c) _
+      (mild-small _ (checks-mild c (sheet-capped []) (λ z. then-mild (reading-checks b w [] .late) _ (sheet-mild [] z) (λ h. call-mild _ (simp capped)))))
+      (λ h. saving-small (saving (counts-in b)))

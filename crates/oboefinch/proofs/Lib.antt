@@ -4,3 +4,4 @@ mod Calls
 mod Given
 mod Listed
 mod Unpacked
+mod Plain

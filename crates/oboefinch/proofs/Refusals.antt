@@ -7,10 +7,12 @@ use mathlib.Core.List.{List, [], _∷_, zipWith}
 use lib.Dec.{eqb}
 use lib.ListN.{length}
 use borrow.Author.Tests.{eqb-true}
+use Rattle.paper.specs.Buffers.{lacking}
 use Rattle.paper.specs.Event.{Event}
 use Rattle.paper.specs.Machine.{State, shape, answer, offered, answers}
 use Rattle.paper.specs.Reading.{first-refused, begins, stamps-refused}
-use Rattle.paper.specs.Refusals.{first, Refusal, of-call, _then_}
+use Rattle.paper.specs.Refusals.{first, Refusal, of-call, _then_, Checks, refusal-of}
+use Rattle.paper.specs.Terms.{Terms}
 use Rattle.paper.proofs.Laws.Tables.{cond-cases}
 use Rattle.oboefinch.specs.Packed.{refusal-fields}
 use Rattle.oboefinch.proofs.Small.{Small}
@@ -33,26 +35,36 @@ call-mild c h = record { number = omega arith; position = omega arith }
 pub then-mild : (r k : Refusal) → Mild r → (r .number ≡ 0 → Mild k) → Mild (r then k)
 then-mild r k m h = cond-cases Mild (eqb (r .number) 0) k r (λ q. h (eqb-true (r .number) 0 q)) (λ q. m)
 
-answer-capped : (n : ℕ) (s : State) (e : Event) → min 255 (answer n s e) ≡ answer n s e
+answer-capped : (t : Terms) (s : State) (e : Event) → min 255 (answer t s e) ≡ answer t s e
 unfolding answer shape
-answer-capped n s e = simp capped
+answer-capped t s e = simp capped
+
+-- The checks of a call, by their place.
+pub checks-mild : (c : Checks) → min 255 (c .early) ≡ c .early → (c .early ≡ 0 → Mild (c .late)) → Mild (refusal-of c)
+checks-mild c e l = then-mild (of-call (c .early)) (c .late) (call-mild (c .early) e) l
+
+-- 9, whatever slots are asked for.
+pub lacking-capped : (m : ℕ) (more : List (List ℕ)) → min 255 (lacking m more) ≡ lacking m more
+unfolding lacking
+lacking-capped m [] = refl
+lacking-capped m (slots ∷ more) = simp (capped, lacking-capped m more)
 
 -- Events in order, from position i on.
-pub events-mild : (n : ℕ) (es : List Event) (s : State) (i : ℕ) → i + length es ≤ 512 → Mild (first-refused i (answers n s es))
+pub events-mild : (t : Terms) (es : List Event) (s : State) (i : ℕ) → i + length es ≤ 512 → Mild (first-refused i (answers t s es))
 unfolding first-refused answers
-events-mild n [] s i l = call-mild 0 refl
-events-mild n (e ∷ es) s i l =
-    then-mild (record { number = answer n s e; position = i }) _
-    (record { number = omega (arith, answer-capped n s e); position = omega arith })
-    (λ q. events-mild n es (offered n s e) (suc i) (omega arith))
+events-mild t [] s i l = call-mild 0 refl
+events-mild t (e ∷ es) s i l =
+    then-mild (record { number = answer t s e; position = i }) _
+    (record { number = omega (arith, answer-capped t s e); position = omega arith })
+    (λ q. events-mild t es (offered t s e) (suc i) (omega arith))
 
 -- Stamps in order, likewise.
 pub stamps-mild : (ts : List (List ℕ)) (i : ℕ) (b : List ℕ) → i + length ts ≤ 512 → Mild (stamps-refused i ts b)
 unfolding stamps-refused
 stamps-mild [] i [] l = call-mild 0 refl
 stamps-mild [] i (x ∷ b) l = call-mild 19 refl
-stamps-mild (t ∷ ts) i b l =
-    cond-cases Mild (begins t b) _ _ (λ q. stamps-mild ts (suc i) _ (omega arith))
+stamps-mild (u ∷ ts) i b l =
+    cond-cases Mild (begins u b) _ _ (λ q. stamps-mild ts (suc i) _ (omega arith))
     (λ q. record { number = omega arith; position = omega arith })
 
 pub zip-few : {A B C : Type 0} (f : A → B → C) (l : List A) (m : List B) → length (zipWith f l m) ≤ length l

@@ -1,6 +1,5 @@
 -- The answer of a C call: one number, in which four fields stand.
 use Prim.Native.Nat.{ℕ, _+_, _*_}
-use mathlib.Core.List.{List}
 use Rattle.paper.specs.Buffers.{Work}
 use Rattle.paper.specs.Class.{Classed}
 use Rattle.paper.specs.Event.{how-many}
@@ -25,7 +24,7 @@ refusal-fields r = record { number = r .number; x = 0; y = r .position; z = 0 }
 
 -- Reading: process count, events, carried values.
 abbrev pub read-fields : Read → Fields
-read-fields a = record { number = 0; x = a .processes; y = how-many (a .list); z = a .carried }
+read-fields a = record { number = 0; x = a .terms .processes; y = how-many (a .list); z = a .carried }
 
 -- Class mode: accepted events, carried values.
 abbrev pub class-fields : Classed → Fields
@@ -64,9 +63,9 @@ answered told o = packed (fields told o)
 abbrev pub with-work : {A : Type 0} → (A → Fields) → Outcome A × Work → ℕ × Work
 with-work told r = (answered told (r .0), r .1)
 
-abbrev pub with-output : {A B : Type 0} → (A → Fields) → Outcome A × Work × B → ℕ × Work × B
-with-output told r = (answered told (r .0), r .1, r .2)
+-- The same with a further slice, and with two.
+abbrev pub with-output : {A B : Type 0} → (A → Fields) → (Outcome A × Work) × B → (ℕ × Work) × B
+with-output told r = (with-work told (r .0), r .1)
 
--- The same with the Lamport numbers' slots behind.
-abbrev pub with-numbers : {A B : Type 0} → (A → B) → A × List ℕ → B × List ℕ
-with-numbers f r = (f (r .0), r .1)
+abbrev pub with-two : {A B C : Type 0} → (A → Fields) → (Outcome A × Work) × B × C → (ℕ × Work) × B × C
+with-two told r = (with-work told (r .0), r .1, r .2)

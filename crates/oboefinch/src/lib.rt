@@ -7,11 +7,13 @@ ghost use Rattle.paper.specs.Marking.{marking};
 ghost use Rattle.paper.specs.Questions.{ordering, comparing, chaining, writing};
 ghost use Rattle.paper.specs.Reading.{reading, reading-lamport};
 ghost use Rattle.paper.specs.Savings.{storing};
+ghost use Rattle.paper.specs.Terms.{plain};
 ghost use Rattle.course.specs.Said.{work};
 ghost use Rattle.oboefinch.specs.Packed.{read-fields, class-fields, write-fields, verdict-fields, chain-fields, mark-fields, saving-fields};
-ghost use Rattle.oboefinch.specs.Packed.{answered, with-work, with-output, with-numbers};
+ghost use Rattle.oboefinch.specs.Packed.{answered, with-work, with-output, with-two};
 use clock::Ordered;
 use clock::Position;
+use clock::Terms;
 use course::Classed;
 use marks::Marked;
 use order::Chained;
@@ -34,7 +36,7 @@ pub extern "C" fn oboefinch_read(
 {
     match sheet::read(sheet, clocks, masks, values) {
         Reading::Refused(r) => pack::refusal(r),
-        Reading::Done(c) => pack::fields(0, c.processes, c.size / 8, c.carried),
+        Reading::Done(c) => pack::fields(0, c.terms.processes, c.size / 8, c.carried),
     }
 }
 
@@ -48,12 +50,12 @@ pub extern "C" fn oboefinch_read_lamport(
     lamports: &mut [u16],
 ) -> u64
     ensures { λ r. ⌜ ((r, work (now (clocks .exit)) (now (masks .exit)) (now (values .exit))), now (lamports .exit))
-        ≡ with-numbers (with-work read-fields)
+        ≡ with-output read-fields
         (reading-lamport (now (sheet .entry)) (work (now (clocks .entry)) (now (masks .entry)) (now (values .entry))) (now (lamports .entry))) ⌝ }
 {
     match sheet::read_lamport(sheet, clocks, masks, values, lamports) {
         Reading::Refused(r) => pack::refusal(r),
-        Reading::Done(a) => pack::fields(0, a.processes, a.size / 8, a.carried),
+        Reading::Done(a) => pack::fields(0, a.terms.processes, a.size / 8, a.carried),
     }
 }
 
@@ -67,11 +69,12 @@ pub extern "C" fn oboefinch_class(
     values: &mut [u16],
     answers: &mut [u8],
 ) -> u64
-    ensures { λ r. ⌜ (r, work (now (clocks .exit)) (now (masks .exit)) (now (values .exit)), now (answers .exit))
+    ensures { λ r. ⌜ ((r, work (now (clocks .exit)) (now (masks .exit)) (now (values .exit))), now (answers .exit))
         ≡ with-output class-fields
-        (paper.class n (now (list .entry)) (work (now (clocks .entry)) (now (masks .entry)) (now (values .entry))) (now (answers .entry))) ⌝ }
+        (paper.class (plain n) (now (list .entry)) (work (now (clocks .entry)) (now (masks .entry)) (now (values .entry))) (now (answers .entry))) ⌝ }
 {
-    match course::class(n, list, clocks, masks, values, answers) {
+    let terms = Terms::plain(n);
+    match course::class(terms, list, clocks, masks, values, answers) {
         Classed::Refused(r) => pack::refusal(r),
         Classed::Done(accepted, carried) => pack::fields(0, 0, accepted, carried),
     }
@@ -88,11 +91,12 @@ pub extern "C" fn oboefinch_class_lamport(
     answers: &mut [u8],
     lamports: &mut [u16],
 ) -> u64
-    ensures { λ r. ⌜ ((r, work (now (clocks .exit)) (now (masks .exit)) (now (values .exit)), now (answers .exit)), now (lamports .exit))
-        ≡ with-numbers (with-output class-fields)
-        (paper.class-lamport n (now (list .entry)) (work (now (clocks .entry)) (now (masks .entry)) (now (values .entry))) (now (answers .entry)) (now (lamports .entry))) ⌝ }
+    ensures { λ r. ⌜ ((r, work (now (clocks .exit)) (now (masks .exit)) (now (values .exit))), now (answers .exit), now (lamports .exit))
+        ≡ with-two class-fields
+        (paper.class-lamport (plain n) (now (list .entry)) (work (now (clocks .entry)) (now (masks .entry)) (now (values .entry))) (now (answers .entry)) (now (lamports .entry))) ⌝ }
 {
-    match course::class_lamport(n, list, clocks, masks, values, answers, lamports) {
+    let terms = Terms::plain(n);
+    match course::class_lamport(terms, list, clocks, masks, values, answers, lamports) {
         Classed::Refused(r) => pack::refusal(r),
         Classed::Done(k, v) => pack::fields(0, 0, k, v),
     }
@@ -108,11 +112,12 @@ pub extern "C" fn oboefinch_write(
     values: &mut [u16],
     sheet: &mut [u8],
 ) -> u64
-    ensures { λ r. ⌜ (r, work (now (clocks .exit)) (now (masks .exit)) (now (values .exit)), now (sheet .exit))
+    ensures { λ r. ⌜ ((r, work (now (clocks .exit)) (now (masks .exit)) (now (values .exit))), now (sheet .exit))
         ≡ with-output write-fields
-        (writing n (now (list .entry)) (work (now (clocks .entry)) (now (masks .entry)) (now (values .entry))) (now (sheet .entry))) ⌝ }
+        (writing (plain n) (now (list .entry)) (work (now (clocks .entry)) (now (masks .entry)) (now (values .entry))) (now (sheet .entry))) ⌝ }
 {
-    match writer::write(n, list, clocks, masks, values, sheet) {
+    let terms = Terms::plain(n);
+    match writer::write(terms, list, clocks, masks, values, sheet) {
         Wrote::Refused(r) => pack::refusal(r),
         Wrote::Done(events, bytes) => pack::fields(0, 0, events, bytes),
     }
@@ -131,11 +136,12 @@ pub extern "C" fn oboefinch_compare(
 ) -> u64
     ensures { λ r. ⌜ (r, work (now (clocks .exit)) (now (masks .exit)) (now (values .exit)))
         ≡ with-work verdict-fields
-        (comparing n (now (list .entry)) (work (now (clocks .entry)) (now (masks .entry)) (now (values .entry))) first second) ⌝ }
+        (comparing (plain n) (now (list .entry)) (work (now (clocks .entry)) (now (masks .entry)) (now (values .entry))) first second) ⌝ }
 {
     let a = Position(first);
     let b = Position(second);
-    match order::compare(n, list, clocks, masks, values, a, b) {
+    let terms = Terms::plain(n);
+    match order::compare(terms, list, clocks, masks, values, a, b) {
         Compared::Refused(r) => pack::refusal(r),
         Compared::Done(v) => pack::verdict(v),
     }
@@ -153,13 +159,14 @@ pub extern "C" fn oboefinch_chain(
     second: usize,
     chain: &mut [u16],
 ) -> u64
-    ensures { λ r. ⌜ (r, work (now (clocks .exit)) (now (masks .exit)) (now (values .exit)), now (chain .exit))
+    ensures { λ r. ⌜ ((r, work (now (clocks .exit)) (now (masks .exit)) (now (values .exit))), now (chain .exit))
         ≡ with-output chain-fields
-        (chaining n (now (list .entry)) (work (now (clocks .entry)) (now (masks .entry)) (now (values .entry))) first second (now (chain .entry))) ⌝ }
+        (chaining (plain n) (now (list .entry)) (work (now (clocks .entry)) (now (masks .entry)) (now (values .entry))) first second (now (chain .entry))) ⌝ }
 {
     let a = Position(first);
     let b = Position(second);
-    match order::chain(n, list, clocks, masks, values, a, b, chain) {
+    let terms = Terms::plain(n);
+    match order::chain(terms, list, clocks, masks, values, a, b, chain) {
         Chained::Refused(r) => pack::refusal(r),
         Chained::Done(length) => pack::fields(0, 0, 0, length),
     }
@@ -175,7 +182,7 @@ pub extern "C" fn oboefinch_mark(
     values: &mut [u16],
     marks: &mut [u8],
 ) -> u64
-    ensures { λ r. ⌜ (r, work (now (clocks .exit)) (now (masks .exit)) (now (values .exit)), now (marks .exit))
+    ensures { λ r. ⌜ ((r, work (now (clocks .exit)) (now (masks .exit)) (now (values .exit))), now (marks .exit))
         ≡ with-output mark-fields
         (marking (now (sheet .entry)) (now (lines .entry)) (work (now (clocks .entry)) (now (masks .entry)) (now (values .entry))) (now (marks .entry))) ⌝ }
 {
@@ -194,7 +201,7 @@ pub extern "C" fn oboefinch_savings(
     values: &mut [u16],
     percent: &mut [f64],
 ) -> u64
-    ensures { λ r. ⌜ (r, work (now (clocks .exit)) (now (masks .exit)) (now (values .exit)), now (percent .exit))
+    ensures { λ r. ⌜ ((r, work (now (clocks .exit)) (now (masks .exit)) (now (values .exit))), now (percent .exit))
         ≡ with-output saving-fields
         (storing (now (sheet .entry)) (work (now (clocks .entry)) (now (masks .entry)) (now (values .entry))) (now (percent .entry))) ⌝ }
 {

@@ -9,16 +9,16 @@ use Rattle.oboefinch.proofs.oboefinch_mark.Statement.{statement}
 use Rattle.oboefinch.proofs.oboefinch_mark.Tie as tie
 
 refusal-requires : tie.Need-refusal-requires
-refusal-requires c κs = small-output mark-fields _ _ (ap marked (c .before .r .given .1)) _ _ _ (c .before .before .before .before .before .before .before .before .before .before .before .mark .ensures) (marking-small _ _ _ _) .y
+refusal-requires c κs = small-output mark-fields (ap marked (c .before .r .given .1)) (c .before .before .before .before .before .before .before .before .before .before .before .mark .ensures) (marking-small _ _ _ _) .y
 
 fields-requires : tie.Need-fields-requires
-fields-requires c κs = let s = small-output mark-fields _ _ (ap marked (c .before .total .given .1)) _ _ _ (c .before .before .before .before .before .before .before .before .before .before .before .mark .ensures) (marking-small _ _ _ _) in omega (arith, s .y, s .z)
+fields-requires c κs = let s = small-output mark-fields (ap marked (c .before .total .given .1)) (c .before .before .before .before .before .before .before .before .before .before .before .mark .ensures) (marking-small _ _ _ _) in omega (arith, s .y, s .z)
 
 returns : tie.Need-returns
-returns c = answer-output mark-fields _ _ (ap marked (c .before .before .r .given .1)) _ _ _ (c .before .before .before .before .before .before .before .before .before .before .before .before .mark .ensures) _ (c .refusal .ensures)
+returns c = answer-output mark-fields (ap marked (c .before .before .r .given .1)) (c .before .before .before .before .before .before .before .before .before .before .before .before .mark .ensures) (c .refusal .ensures)
 
 returns-2 : tie.Need-returns-2
-returns-2 c = answer-output mark-fields _ _ (ap marked (c .before .before .total .given .1)) _ _ _ (c .before .before .before .before .before .before .before .before .before .before .before .before .mark .ensures) _ (c .fields .ensures)
+returns-2 c = answer-output mark-fields (ap marked (c .before .before .total .given .1)) (c .before .before .before .before .before .before .before .before .before .before .before .before .mark .ensures) (c .fields .ensures)
 
 pub oboefinch-mark-spec : {M : Type 1} → statement M
 oboefinch-mark-spec =

@@ -8,13 +8,13 @@ use Rattle.oboefinch.proofs.oboefinch_order.Statement.{statement}
 use Rattle.oboefinch.proofs.oboefinch_order.Tie as tie
 
 refusal-requires : tie.Need-refusal-requires
-refusal-requires c κs = small-alone verdict-fields _ _ (ap ordered (c .before .r .given .1)) _ (c .before .before .before .order .ensures) (ordering-small _ _) .y
+refusal-requires c κs = small-alone verdict-fields (ap ordered (c .before .r .given .1)) (c .before .before .before .order .ensures) (ordering-small _ _) .y
 
 returns : tie.Need-returns
-returns c = answer-alone verdict-fields _ _ (ap ordered (c .before .before .r .given .1)) _ (c .before .before .before .before .order .ensures) _ (c .refusal .ensures)
+returns c = answer-alone verdict-fields (ap ordered (c .before .before .r .given .1)) (c .before .before .before .before .order .ensures) (c .refusal .ensures)
 
 returns-2 : tie.Need-returns-2
-returns-2 c = answer-alone verdict-fields _ _ (ap ordered (c .before .before .v .given .1)) _ (c .before .before .before .before .order .ensures) _ (c .verdict .ensures)
+returns-2 c = answer-alone verdict-fields (ap ordered (c .before .before .v .given .1)) (c .before .before .before .before .order .ensures) (c .verdict .ensures)
 
 pub oboefinch-order-spec : {M : Type 1} → statement M
 oboefinch-order-spec =

@@ -1,26 +1,35 @@
 use native.Mathlib.Omega.{arith}
-use mathlib.Core.Path.{ap, subst}
-use Rattle.sheet.specs.Said.{told, Where}
+use native.Mathlib.Omega.{arith}
+use mathlib.Core.Path.{ap}
+use Rattle.sheet.specs.Said.{read-as}
+use Rattle.sheet.proofs.Accepted.{accepted}
 use Rattle.oboefinch.specs.Packed.{read-fields}
 use Rattle.oboefinch.proofs.Calls.{reading-small}
 use Rattle.oboefinch.proofs.Given.{small-work, answer-work}
-use Rattle.oboefinch.proofs.Listed.{listed-small, listed-answer}
+use Rattle.oboefinch.proofs.Listed.{many, listed-answer}
 use borrow.Author.Needs.{needs}
 use Rattle.oboefinch.proofs.oboefinch_read.Statement.{statement}
 use Rattle.oboefinch.proofs.oboefinch_read.Tie as tie
 
 refusal-requires : tie.Need-refusal-requires
-refusal-requires c κs = small-work read-fields _ _ (ap (told _) (c .before .r .given .1)) _ _ (c .before .before .before .before .before .before .before .before .before .read .ensures .0) (reading-small _ _) .y
+refusal-requires c κs =
+    small-work read-fields (ap (read-as _) (c .before .r .given .1)) (c .before .before .before .before .before .before .before .before .before .read .ensures .0) (reading-small _ _) .y
 
 fields-requires : tie.Need-fields-requires
-fields-requires c κs = let s = listed-small _ _ _ _ _ _ _ (ap (told _) (c .before .before .c .given .1)) _ (c .before .before .before .before .before .before .before .before .before .before .read .ensures .0) (subst (Where _) (c .before .before .c .given .1) (c .before .before .before .before .before .before .before .before .before .before .read .ensures .1)) in omega (arith, s .0, s .1, s .2)
+fields-requires c κs =
+    let k = c .before .before .before .before .before .before .before .before .before .before in
+    let x = c .before .before .c .given in
+    let s = small-work read-fields (ap (read-as _) (x .1)) (k .read .ensures .0) (reading-small _ _) in
+    omega (arith, s .x, s .y, s .z, many (accepted _ _ (x .1) (k .read .ensures)))
 
 returns : tie.Need-returns
-returns c = answer-work read-fields _ _ (ap (told _) (c .before .before .r .given .1)) _ _ (c .before .before .before .before .before .before .before .before .before .before .read .ensures .0) _ (c .refusal .ensures)
+returns c = answer-work read-fields (ap (read-as _) (c .before .before .r .given .1)) (c .before .before .before .before .before .before .before .before .before .before .read .ensures .0) (c .refusal .ensures)
 
 returns-2 : tie.Need-returns-2
-returns-2 c = answer-work read-fields _ _ (ap (told _) (c .before .before .before .c .given .1)) _ _ (c .before .before .before .before .before .before .before .before .before .before .before .read .ensures .0) _
-    (listed-answer _ _ _ _ _ _ _ (ap (told _) (c .before .before .before .c .given .1)) _ (c .before .before .before .before .before .before .before .before .before .before .before .read .ensures .0) (subst (Where _) (c .before .before .before .c .given .1) (c .before .before .before .before .before .before .before .before .before .before .before .read .ensures .1)) _ (c .fields .ensures))
+returns-2 c =
+    let k = c .before .before .before .before .before .before .before .before .before .before .before in
+    let x = c .before .before .before .c .given in
+    answer-work read-fields (ap (read-as _) (x .1)) (k .read .ensures .0) (listed-answer (accepted _ _ (x .1) (k .read .ensures)) (c .fields .ensures))
 
 pub oboefinch-read-spec : {M : Type 1} → statement M
 oboefinch-read-spec =

@@ -1,38 +1,37 @@
 use native.Mathlib.Omega.{arith}
-use mathlib.Core.Path.{_≡_, ap, sym, subst, _∙_}
-use Rattle.sheet.specs.Said.{told, Where}
-use Rattle.oboefinch.specs.Packed.{read-fields, with-work}
+use native.Mathlib.Omega.{arith}
+use mathlib.Core.Path.{ap}
+use Rattle.sheet.specs.Said.{read-as}
+use Rattle.sheet.proofs.Accepted.{accepted}
+use Rattle.oboefinch.specs.Packed.{read-fields}
 use Rattle.oboefinch.proofs.Calls.{reading-lamport-small}
-use Rattle.oboefinch.proofs.Given.{small-work, answer-work, before-numbers, answer-numbers}
-use Rattle.oboefinch.proofs.Listed.{plainly, listed-small, listed-answer}
+use Rattle.oboefinch.proofs.Given.{small-output, answer-output}
+use Rattle.oboefinch.proofs.Listed.{plainly, many, listed-answer}
 use borrow.Author.Needs.{needs}
 use Rattle.oboefinch.proofs.oboefinch_read_lamport.Statement.{statement}
 use Rattle.oboefinch.proofs.oboefinch_read_lamport.Tie as tie
 
 refusal-requires : tie.Need-refusal-requires
 refusal-requires c κs =
-    small-work read-fields _ _ (ap (told _) (c .before .r .given .1)) _ _ (before-numbers _ _ _ (c .before .before .before .before .before .before .before .before .before .before .before .read-lamport .ensures .0)) (reading-lamport-small _ _ _) .y
+    small-output read-fields (ap (read-as _) (c .before .r .given .1)) (c .before .before .before .before .before .before .before .before .before .before .before .read-lamport .ensures .0) (reading-lamport-small _ _ _) .y
 
 fields-requires : tie.Need-fields-requires
 fields-requires c κs =
-    let case = ap (told _) (c .before .before .a .given .1) in
-    let e = before-numbers _ _ _ (c .before .before .before .before .before .before .before .before .before .before .before .before .read-lamport .ensures .0) in
-    let s = listed-small _ _ _ _ _ _ _ case _ (plainly _ _ _ _ _ _ case e) (subst (Where _) (c .before .before .a .given .1) (c .before .before .before .before .before .before .before .before .before .before .before .before .read-lamport .ensures .1)) in
-    omega (arith, s .0, s .1, s .2)
+    let (e, lies) = c .before .before .before .before .before .before .before .before .before .before .before .before .read-lamport .ensures in
+    let x = c .before .before .a .given in
+    let case = ap (read-as _) (x .1) in
+    let s = small-output read-fields case e (reading-lamport-small _ _ _) in
+    omega (arith, s .x, s .y, s .z, many (accepted _ _ (x .1) (plainly _ _ _ case e, lies)))
 
 returns : tie.Need-returns
-returns c =
-    let e = c .before .before .before .before .before .before .before .before .before .before .before .before .read-lamport .ensures .0 in
-    answer-numbers _ _ _ e (with-work read-fields) _ (answer-work read-fields _ _ (ap (told _) (c .before .before .r .given .1)) _ _ (before-numbers _ _ _ e) _ (c .refusal .ensures))
+returns c = answer-output read-fields (ap (read-as _) (c .before .before .r .given .1)) (c .before .before .before .before .before .before .before .before .before .before .before .before .read-lamport .ensures .0) (c .refusal .ensures)
 
 returns-2 : tie.Need-returns-2
 returns-2 c =
-    let case = ap (told _) (c .before .before .before .a .given .1) in
-    let e = c .before .before .before .before .before .before .before .before .before .before .before .before .before .read-lamport .ensures .0 in
-    let x = before-numbers _ _ _ e in
-    answer-numbers _ _ _ e (with-work read-fields) _
-    (answer-work read-fields _ _ case _ _ x _
-    (listed-answer _ _ _ _ _ _ _ case _ (plainly _ _ _ _ _ _ case x) (subst (Where _) (c .before .before .before .a .given .1) (c .before .before .before .before .before .before .before .before .before .before .before .before .before .read-lamport .ensures .1)) _ (c .fields .ensures)))
+    let (e, lies) = c .before .before .before .before .before .before .before .before .before .before .before .before .before .read-lamport .ensures in
+    let x = c .before .before .before .a .given in
+    let case = ap (read-as _) (x .1) in
+    answer-output read-fields case e (listed-answer (accepted _ _ (x .1) (plainly _ _ _ case e, lies)) (c .fields .ensures))
 
 pub oboefinch-read-lamport-spec : {M : Type 1} → statement M
 oboefinch-read-lamport-spec =

@@ -8,13 +8,13 @@ use Rattle.oboefinch.proofs.oboefinch_savings.Statement.{statement}
 use Rattle.oboefinch.proofs.oboefinch_savings.Tie as tie
 
 refusal-requires : tie.Need-refusal-requires
-refusal-requires c κs = small-output saving-fields _ _ (ap saved (c .before .r .given .1)) _ _ _ (c .before .before .before .before .before .before .before .before .before .before .before .store .ensures) (storing-small _ _ _) .y
+refusal-requires c κs = small-output saving-fields (ap saved (c .before .r .given .1)) (c .before .before .before .before .before .before .before .before .before .before .before .store .ensures) (storing-small _ _ _) .y
 
 returns : tie.Need-returns
-returns c = answer-output saving-fields _ _ (ap saved (c .before .before .r .given .1)) _ _ _ (c .before .before .before .before .before .before .before .before .before .before .before .before .store .ensures) _ (c .refusal .ensures)
+returns c = answer-output saving-fields (ap saved (c .before .before .r .given .1)) (c .before .before .before .before .before .before .before .before .before .before .before .before .store .ensures) (c .refusal .ensures)
 
 returns-2 : tie.Need-returns-2
-returns-2 c = answer-output saving-fields _ _ (ap saved (c .before .before .s .given .1)) _ _ _ (c .before .before .before .before .before .before .before .before .before .before .before .before .store .ensures) _ (c .saving .ensures)
+returns-2 c = answer-output saving-fields (ap saved (c .before .before .s .given .1)) (c .before .before .before .before .before .before .before .before .before .before .before .before .store .ensures) (c .saving .ensures)
 
 pub oboefinch-savings-spec : {M : Type 1} → statement M
 oboefinch-savings-spec =

@@ -21,7 +21,7 @@ accepted : (c : tie.After-c2) → (done (counts (c .c2 .given .0 .0)), slots (c 
 accepted c = ap (λ r. (counted r, slots (c .before .before .before .before .before))) (sym (c .c2 .given .1)) ∙ c .before .before .before .before .before .count .ensures
 
 counts-text-requires : tie.Need-counts-text-requires
-counts-text-requires c κs = count-bounds _ _ _ _ (accepted (c .before .before))
+counts-text-requires c κs = count-bounds _ _ (accepted (c .before .before))
 
 returns : tie.Need-returns
 returns c =
