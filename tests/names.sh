@@ -1,5 +1,5 @@
 #!/usr/bin/env bash
-# Every file that docs/PAPER.md and docs/PROMISES.md name exists, and every name that a table row gives behind a file is declared in it.
+# Every file that a table row of docs/PAPER.md, docs/PROMISES.md and docs/DECISIONS.md names exists, and every name that it gives behind a file is declared in it.
 # In a row, a word in backticks with a slash or an ending is a file; the words in backticks behind it are its names.
 # And the other way round: PAPER.md names every file of the paper's definitions and theorems and every claim, PROMISES.md every public function.
 set -u
@@ -16,7 +16,7 @@ declared() { # FILE: the names it declares, a line each
             else if ($(i + 1) ~ /^[{]/) print $i
         }' "$1"
         ;;
-    *.rt) sed -n 's/^ *\(pub\)\{0,1\}\((crate)\)\{0,1\} *\(extern "C" \)\{0,1\}\(fn\|struct\|enum\|const\) \([A-Za-z0-9_]*\).*/\5/p' "$1" ;;
+    *.rt) sed -n 's/^ *\(pub\)\{0,1\}\((crate)\)\{0,1\} *\(extern "C" \)\{0,1\}\(fn\|struct\|enum\|const\|type\) \([A-Za-z0-9_]*\).*/\5/p' "$1" ;;
     *) grep -o '[A-Za-z0-9_-]*' "$1" ;;
     esac
 }
@@ -56,7 +56,7 @@ while IFS= read -r line; do
             ;;
         esac
     done < <(printf '%s\n' "$line" | grep -o '`[^`]*`' | tr -d '`')
-done < <(grep -H '^|' docs/PAPER.md docs/PROMISES.md 2>/dev/null)
+done < <(grep -H '^|' docs/PAPER.md docs/PROMISES.md docs/DECISIONS.md 2>/dev/null)
 
 # A page without names would pass by saying nothing.
 [ "$seen" -ge 100 ] || { echo "only $seen names found in docs/"; bad=1; }
