@@ -2,7 +2,7 @@
 ghost use Rattle.lines.specs.Text.{Printed};
 ghost use Rattle.marker.specs.Answer.{marker-answer};
 use desk::PAGE;
-use marks::Marked;
+use pupil::Marked;
 
 // What `marker` prints of a sheet and a pupil's list.
 pub fn marker_answer(sheet: &[u8], list: &[u8], out: &mut [u8; PAGE]) -> usize
@@ -12,7 +12,7 @@ pub fn marker_answer(sheet: &[u8], list: &[u8], out: &mut [u8; PAGE]) -> usize
     let mut masks = [0u32; 512];
     let mut values = [0u16; 16384];
     let mut slots = [0u8; 200];
-    let m = marks::mark(
+    let m = pupil::mark(
         sheet,
         list,
         &mut clocks,

@@ -15,12 +15,12 @@ use clock::Ordered;
 use clock::Position;
 use clock::Terms;
 use course::Classed;
-use marks::Marked;
+use layout::Wrote;
 use order::Chained;
 use order::Compared;
-use saving::Saved;
+use percentage::Saved;
+use pupil::Marked;
 use sheet::Reading;
-use writer::Wrote;
 
 // Reading a sheet.
 #[no_mangle]
@@ -117,7 +117,7 @@ pub extern "C" fn oboefinch_write(
         (writing (plain n) (now (list .entry)) (work (now (clocks .entry)) (now (masks .entry)) (now (values .entry))) (now (sheet .entry))) ⌝ }
 {
     let terms = Terms::plain(n);
-    match writer::write(terms, list, clocks, masks, values, sheet) {
+    match layout::write(terms, list, clocks, masks, values, sheet) {
         Wrote::Refused(r) => pack::refusal(r),
         Wrote::Done(events, bytes) => pack::fields(0, 0, events, bytes),
     }
@@ -186,7 +186,7 @@ pub extern "C" fn oboefinch_mark(
         ≡ with-output mark-fields
         (marking (now (sheet .entry)) (now (lines .entry)) (work (now (clocks .entry)) (now (masks .entry)) (now (values .entry))) (now (marks .entry))) ⌝ }
 {
-    match marks::mark(sheet, lines, clocks, masks, values, marks) {
+    match pupil::mark(sheet, lines, clocks, masks, values, marks) {
         Marked::Refused(r) => pack::refusal(r),
         Marked::Done(total, count) => pack::fields(0, 0, total, count),
     }
@@ -205,7 +205,7 @@ pub extern "C" fn oboefinch_savings(
         ≡ with-output saving-fields
         (storing (now (sheet .entry)) (work (now (clocks .entry)) (now (masks .entry)) (now (values .entry))) (now (percent .entry))) ⌝ }
 {
-    match saving::store(sheet, clocks, masks, values, percent) {
+    match percentage::store(sheet, clocks, masks, values, percent) {
         Saved::Refused(r) => pack::refusal(r),
         Saved::Done(s) => pack::saving(s),
     }

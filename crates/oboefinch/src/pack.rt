@@ -3,10 +3,10 @@ ghost use mathlib.Core.Path.{_≡_};
 ghost use Prim.Native.Nat.{_<_};
 ghost use Rattle.clock.specs.Said as said;
 ghost use Rattle.oboefinch.specs.Packed.{packed, refusal-fields, verdict-fields, saving-fields};
-ghost use Rattle.saving.specs.Said as saving-said;
+ghost use Rattle.percentage.specs.Said as saving-said;
 use clock::Refusal;
 use clock::Verdict;
-use saving::Saving;
+use percentage::Saving;
 
 pub(crate) fn fields(number: u8, x: usize, y: usize, z: usize) -> u64
     requires { ⌜ (x < 256) × (y < 65536) × (z < 65536) ⌝ }

@@ -1,11 +1,11 @@
 // What `savings` answers: the whole text for a whole sheet, over work buffers that are always large enough.
 ghost use Rattle.paper.proofs.SavedRight.{Bounds};
 ghost use Rattle.lines.specs.Text.{Printed};
-ghost use Rattle.saving.specs.Said.{counts};
+ghost use Rattle.percentage.specs.Said.{counts};
 ghost use Rattle.savings.specs.Answer.{counts-line, savings-answer};
 use desk::PAGE;
-use saving::Counted;
-use saving::Counts;
+use percentage::Counted;
+use percentage::Counts;
 
 // The line of counts: the hundredths come from whole numbers alone.
 fn counts_text(c: Counts, out: &mut [u8; PAGE]) -> usize
@@ -27,7 +27,7 @@ pub fn savings_answer(sheet: &[u8], out: &mut [u8; PAGE]) -> usize
     let mut clocks = [0u16; 16384];
     let mut masks = [0u32; 512];
     let mut values = [0u16; 16384];
-    let c = saving::count(sheet, &mut clocks, &mut masks, &mut values);
+    let c = percentage::count(sheet, &mut clocks, &mut masks, &mut values);
     match c {
         Counted::Refused(r) => lines::refusal_text(r, out),
         Counted::Done(k) => counts_text(k, out),

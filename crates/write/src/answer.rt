@@ -4,7 +4,7 @@ ghost use Rattle.write.specs.Answer.{write-answer};
 ghost use Rattle.write.specs.Said.{Stands};
 use clock::Terms;
 use desk::PAGE;
-use writer::Wrote;
+use layout::Wrote;
 
 // What `write` is to print, and how many bytes: a sheet on standard output, or a refusal's line on standard error.
 pub enum Written {
@@ -19,7 +19,7 @@ pub fn write_answer(terms: Terms, list: &[u8], out: &mut [u8; PAGE]) -> Written
     let mut clocks = [0u16; 16384];
     let mut masks = [0u32; 512];
     let mut values = [0u16; 16384];
-    let w = writer::write(terms, list, &mut clocks, &mut masks, &mut values, out);
+    let w = layout::write(terms, list, &mut clocks, &mut masks, &mut values, out);
     match w {
         Wrote::Refused(r) => Written::Line(lines::refusal_text(r, out)),
         Wrote::Done(_, bytes) => Written::Sheet(bytes),

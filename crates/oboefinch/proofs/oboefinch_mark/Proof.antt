@@ -1,6 +1,6 @@
 use native.Mathlib.Omega.{arith}
 use mathlib.Core.Path.{ap}
-use Rattle.marks.specs.Said.{marked}
+use Rattle.pupil.specs.Said.{marked}
 use Rattle.oboefinch.specs.Packed.{mark-fields}
 use Rattle.oboefinch.proofs.Calls.{marking-small}
 use Rattle.oboefinch.proofs.Given.{small-output, answer-output}

@@ -1,5 +1,5 @@
 use mathlib.Core.Path.{ap}
-use Rattle.saving.specs.Said.{saved}
+use Rattle.percentage.specs.Said.{saved}
 use Rattle.oboefinch.specs.Packed.{saving-fields}
 use Rattle.oboefinch.proofs.Calls.{storing-small}
 use Rattle.oboefinch.proofs.Given.{small-output, answer-output}

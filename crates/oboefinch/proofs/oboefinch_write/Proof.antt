@@ -1,7 +1,7 @@
 use native.Mathlib.Omega.{arith}
 use native.Mathlib.Omega.{arith}
 use mathlib.Core.Path.{ap}
-use Rattle.writer.specs.Said.{wrote}
+use Rattle.layout.specs.Said.{wrote}
 use Rattle.oboefinch.specs.Packed.{write-fields}
 use Rattle.oboefinch.proofs.Calls.{writing-small}
 use Rattle.oboefinch.proofs.Given.{small-output, answer-output}

@@ -1,7 +1,7 @@
 -- The text is that of the marking's outcome.
 use mathlib.Core.Path.{ap, sym, _∙_}
 use Rattle.course.specs.Said.{work}
-use Rattle.marks.specs.Said.{marked}
+use Rattle.pupil.specs.Said.{marked}
 use Rattle.paper.specs.Buffers.{Work}
 use Rattle.desk.proofs.Printed.{printed-as}
 use Rattle.marker.proofs.Marked.{marker-told, marker-done}

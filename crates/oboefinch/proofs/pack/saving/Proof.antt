@@ -1,6 +1,6 @@
 use mathlib.Core.Path.{ap, sym, _∙_}
 use Rattle.oboefinch.specs.Packed.{packed, saving-fields}
-use Rattle.saving.specs.Said.{saving}
+use Rattle.percentage.specs.Said.{saving}
 use borrow.Author.Needs.{needs}
 use Rattle.oboefinch.proofs.pack.saving.Statement.{statement}
 use Rattle.oboefinch.proofs.pack.saving.Tie as tie

@@ -1,6 +1,6 @@
 -- The whole numbers stay small, and nothing is divided by 0.
-use Rattle.saving.specs.Said.{counts}
-use Rattle.saving.proofs.Rounded.{whole-few}
+use Rattle.percentage.specs.Said.{counts}
+use Rattle.percentage.proofs.Rounded.{whole-few}
 use Rattle.savings.proofs.Lined.{none-line, some-line, some-whole}
 use Rattle.desk.proofs.Printed.{printed-as}
 use borrow.Author.Needs.{needs}

@@ -5,8 +5,8 @@ use Rattle.paper.specs.Buffers.{Work, ample}
 use Rattle.paper.specs.Refusals.{done}
 use Rattle.paper.specs.Savings.{tallying}
 use Rattle.course.specs.Said.{work}
-use Rattle.saving.specs.Said.{counts, counted}
-use Rattle.saving.proofs.Told.{count-bounds}
+use Rattle.percentage.specs.Said.{counts, counted}
+use Rattle.percentage.proofs.Told.{count-bounds}
 use Rattle.savings.proofs.Lined.{line-of}
 use Rattle.desk.proofs.Printed.{printed-as}
 use borrow.Author.Needs.{needs}

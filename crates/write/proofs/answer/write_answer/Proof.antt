@@ -5,7 +5,7 @@ use mathlib.Core.Path.{ap, sym, _∙_}
 use denote.Ref.{now}
 use lib.ListN.{length}
 use Rattle.course.specs.Said.{work}
-use Rattle.writer.specs.Said.{wrote}
+use Rattle.layout.specs.Said.{wrote}
 use Rattle.paper.specs.Buffers.{Work}
 use Rattle.write.proofs.SheetOut.{write-refused, write-done}
 use borrow.Author.Needs.{needs}
