@@ -4,3 +4,4 @@ pub mod Emptied
 pub mod ClassMode
 pub mod StrictCourse
 pub mod Passed
+pub mod One

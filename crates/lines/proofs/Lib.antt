@@ -3,3 +3,4 @@ pub mod Slots
 pub mod Faithful
 pub mod MarkerLines
 mod Others
+pub mod One

@@ -2,7 +2,7 @@
 use Prim.Native.Nat.{ℕ, suc, _+_, min, _≤_, _<_}
 use native.Mathlib.Omega.{arith}
 use mathlib.Core.Path.{_≡_, refl}
-use mathlib.Core.Bool.{Bool, true, false}
+use mathlib.Core.Bool.{Bool}
 use mathlib.Core.List.{List, [], _∷_, zipWith}
 use lib.Dec.{eqb}
 use lib.ListN.{length}
@@ -13,6 +13,7 @@ use Rattle.paper.specs.Machine.{State, shape, answer, offered, answers}
 use Rattle.paper.specs.Reading.{first-refused, begins, stamps-refused}
 use Rattle.paper.specs.Refusals.{first, Refusal, of-call, _then_, Checks, refusal-of}
 use Rattle.paper.specs.Terms.{Terms}
+use Rattle.paper.proofs.Laws.Refused.{of-first}
 use Rattle.paper.proofs.Laws.Tables.{cond-cases}
 use Rattle.oboefinch.specs.Packed.{refusal-fields}
 use Rattle.oboefinch.proofs.Small.{Small}
@@ -26,8 +27,7 @@ mild-small r m = record { number = m .number; x = omega arith; y = omega (arith,
 
 -- A number c that is min 255 c.
 pub capped : (t : Bool) (r k : ℕ) → min 255 (first t r k) ≡ first t (min 255 r) (min 255 k)
-capped true r k = refl
-capped false r k = refl
+capped = of-first (min 255)
 
 pub call-mild : (c : ℕ) → min 255 c ≡ c → Mild (of-call c)
 call-mild c h = record { number = omega arith; position = omega arith }

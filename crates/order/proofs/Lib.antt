@@ -4,3 +4,4 @@ mod Linked
 mod OfSheet
 mod Seeking
 mod Walking
+pub mod One

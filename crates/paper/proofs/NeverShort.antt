@@ -21,7 +21,7 @@ use Rattle.paper.specs.Savings.{tallying}
 use Rattle.paper.specs.Sheet.{processes-in, terms-in, list-in, stamps-in, pieces, written}
 use Rattle.paper.specs.Terms.{Terms}
 use Rattle.paper.proofs.Ample.{list-then, header-then, list-brief, sheet-brief, roomy-ample, reading-unasked}
-use Rattle.paper.proofs.Laws.Refused.{is-refused}
+use Rattle.paper.proofs.Laws.Refused.{of-first, is-refused}
 use Rattle.paper.proofs.Laws.Tables.{cond-cases}
 use Rattle.paper.proofs.ReadExactly.{early-says}
 use Rattle.paper.proofs.Sheets.Checks.{neither, equal, not-below, in-order, list-passed}
@@ -34,10 +34,6 @@ Other c = (c ≢ 9) × (c ≢ 21)
 -- A number of such checks is kept by what puts 0 for the two numbers.
 abbrev kept : ℕ → ℕ
 kept c = cond (eqb c 9 || eqb c 21) 0 c
-
-kept-first : (t : Bool) (r k : ℕ) → kept (first t r k) ≡ first t (kept r) (kept k)
-kept-first true r k = refl
-kept-first false r k = refl
 
 is-other : (c : ℕ) → kept c ≡ c → Other c
 is-other c h = (
@@ -56,7 +52,7 @@ then-other r k p q = then-later r k p (λ z. q)
 
 answer-other : (t : Terms) (s : State) (e : Event) → Other (answer t s e)
 unfolding answer shape
-answer-other t s e = is-other _ (simp kept-first)
+answer-other t s e = is-other _ (simp (of-first kept))
 
 events-other : (es : List Event) (t : Terms) (s : State) (i : ℕ) → Other (first-refused i (answers t s es) .number)
 unfolding first-refused answers
@@ -103,7 +99,7 @@ module _ (t : Terms) (list : List ℕ) where
   -- 9 of ample slots and of further ones that are at least 512.
   list-nine : (more : List (List ℕ)) → (how-many list ≤ 512 → lacking (how-many list) more ≡ 0) → Other (list-checks t list (nine t (how-many list) ample more))
   list-nine more h =
-      rest-other (list-checks t list) (nine t (how-many list) ample more) (list-then t list) (is-other _ (simp kept-first))
+      rest-other (list-checks t list) (nine t (how-many list) ample more) (list-then t list) (is-other _ (simp (of-first kept)))
       (λ z. let (few, brief) = list-brief t list z in rw (roomy-ample (t .processes) (how-many list) few brief) (h brief))
 
   class-other : (answered : List ℕ) → 512 ≤ length answered → Other (refusal-of (class-checks t list ample (answered ∷ [])) .number)
@@ -138,7 +134,7 @@ module _ (b : List ℕ) where
   early-other : Other (reading-checks b ample [] .early)
   unfolding header-checks
   early-other =
-      rest-other (header-checks b) (nine t (how-many list) ample []) (header-then b) (is-other _ (simp kept-first))
+      rest-other (header-checks b) (nine t (how-many list) ample []) (header-then b) (is-other _ (simp (of-first kept)))
       (λ z. let (few, brief) = sheet-brief b z in rw (roomy-ample (processes-in b) (how-many list) few brief) (no-slots (how-many list)))
 
   late-other : Other (reading-checks b ample [] .late .number)
@@ -150,7 +146,7 @@ module _ (b : List ℕ) where
   reading-other = by-place-other (reading-checks b ample []) early-other (λ z. late-other)
 
   asked-other : (i j : ℕ) → Other (asked (reading-checks b ample []) list i j .late .number)
-  asked-other i j = then-other (reading-checks b ample [] .late) _ late-other (is-other _ (simp kept-first))
+  asked-other i j = then-other (reading-checks b ample [] .late) _ late-other (is-other _ (simp (of-first kept)))
 
   -- 31 slots are room for the chain.
   chained-other : (i j : ℕ) (out : List ℕ) → 31 ≤ length out → Other (refusal-of (chained (reading-checks b ample []) t list i j out) .number)
@@ -158,7 +154,7 @@ module _ (b : List ℕ) where
       by-place-other (chained (reading-checks b ample []) t list i j out) early-other
       (λ z.
       then-other (asked (reading-checks b ample []) list i j .late) _ (asked-other i j)
-      (rw (le-ltb (length out) (chain-slots (processes-in b)) (omega (arith, few z))) (is-other _ (simp kept-first))))
+      (rw (le-ltb (length out) (chain-slots (processes-in b)) (omega (arith, few z))) (is-other _ (simp (of-first kept)))))
     where
       few : reading-checks b ample [] .early ≡ 0 → processes-in b ≤ 32
       few z = early-says b ample [] .0 z .0 .right .processes .1

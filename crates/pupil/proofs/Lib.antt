@@ -1,3 +1,4 @@
 mod Row
 mod Loop
 mod Rest
+pub mod One

@@ -4,3 +4,4 @@ pub mod Compared
 pub mod Filled
 pub mod InOrder
 pub mod Slots
+pub mod One
