@@ -6,6 +6,8 @@ use native.Mathlib.Omega.{arith}
 use lib.ListN.{length, getD}
 use lib.Seq.{ext-getD}
 use Rattle.paper.specs.Running.{Running}
+use Rattle.record.specs.Moves.{said}
+use Rattle.record.specs.declared.Stamped.{Stamped}
 use Rattle.record.specs.View.{Rows, row, view, Whole}
 
 one-row : (xs ys : List ℕ) → length xs ≡ 32 → length ys ≡ 32 → _≡_ {A = ℕ → ℕ} (λ k. getD xs k 0) (λ k. getD ys k 0) → xs ≡ ys
@@ -19,3 +21,7 @@ one-record {r} {r′} w w′ e = ext-getD [] r r′ (w .rows ∙ sym (w′ .rows
     same (suc zero) h = one-row (row r 1) (row r′ 1) (w .updated) (w′ .updated) (ap (λ (x : Running). x .last-update) e)
     same (suc (suc zero)) h = one-row (row r 2) (row r′ 2) (w .sent) (w′ .sent) (ap (λ (x : Running). x .last-sent) e)
     same (suc (suc (suc a))) h = absurd (omega arith)
+
+-- What a send answers is told by its three values.
+pub one-said : (t u : Stamped) → said t ≡ said u → t ≡ u
+one-said t u h = λ i. record { done = h i .0; mask = h i .1; count = h i .2 }
