@@ -40,23 +40,23 @@ pub record Putting (l list masks vs : List ℕ) (at to place i : ℕ) (out : Lis
       (r : ℕ) (x : List ℕ) → Appended out to (flatten (pieces-from list masks vs (how-many list - i) i)) r x
       → Appended l at (slot-stamps list masks vs) r x
 
-module _ (l list masks vs : List ℕ) (slots : Slots list masks vs) (at : ℕ) where
+module _ {l list masks vs : List ℕ} (slots : Slots list masks vs) {at : ℕ} where
   pub put-start : length l < 2 ^ 64 → at < 2 ^ 64 → Putting l list masks vs at at 0 0 l
   unfolding all-ones
   put-start short small =
       let e : how-many list - 0 ≡ how-many list = omega arith in
       record { within = omega arith; begin = refl; lent = short; reached = small; rest = λ r x a. rw e at a }
 
-  module _ (to place i : ℕ) (out : List ℕ) (w : Putting l list masks vs at to place i out) where
+  module _ {to place i : ℕ} {out : List ℕ} (w : Putting l list masks vs at to place i out) where
     pub put-fits : i < how-many list → place + ones (getD masks i 0) ≤ length vs
     put-fits h = rw (w .begin) (values-there list masks vs slots i h)
 
     pub put-more :
-        (r carried kind : ℕ) (x : List ℕ) → i < how-many list → carried ≡ ones (getD masks i 0) → kind ≡ kind-at list i
+        {r carried kind : ℕ} {x : List ℕ} → i < how-many list → carried ≡ ones (getD masks i 0) → kind ≡ kind-at list i
         → Appended out to (kind-piece kind (getD masks i 0) vs place) r x
         → Putting l list masks vs at r (place + carried) (i + 1) x
     unfolding pieces-from flatten
-    put-more r carried kind x h g q a =
+    put-more {r} {carried} {kind} {x} h g q a =
         let e : how-many list - i ≡ suc (how-many list - suc i) = omega arith in
         record {
           within = omega arith;

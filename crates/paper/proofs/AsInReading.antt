@@ -16,7 +16,7 @@ use Rattle.paper.specs.Terms.{Terms}
 use Rattle.paper.proofs.Also.{also-refused}
 use Rattle.paper.proofs.Laws.Refused.{is-refused}
 
-module _ {A : Type 0} (c : Checks) (a : A) (t : Terms) (list : List ℕ) (w : Work) (r : Refusal) (v : Work) (h : call c a t list w ≡ (refused r, v)) where
+module _ {A : Type 0} (c : Checks) (a : A) (t : Terms) (list : List ℕ) (w : Work) {r : Refusal} {v : Work} (h : call c a t list w ≡ (refused r, v)) where
   -- The same checks with another answer.
   other : {B : Type 0} (b : B) → call c b t list w ≡ (refused r, v)
   other b =
@@ -42,12 +42,12 @@ module _ (w : Work) (r : Refusal) (v : Work) where
       let t = terms-in b in
       let list = list-in b in
       record {
-        compared = λ i j. ap (λ (p : (Outcome ℕ × Work) × List ℕ). p .0) (once c _ t list w r v h _ _ [] []);
-        chained = λ i j out. twice c _ t list w r v h _ _ _ _ out;
-        marked = λ lines out e. rw e (once c _ t list w r v h _ _ _ out);
-        tallied = other c _ t list w r v h _;
-        saved = other c _ t list w r v h _;
-        stored = λ out. once c _ t list w r v h _ _ _ out;
+        compared = λ i j. ap (λ (p : (Outcome ℕ × Work) × List ℕ). p .0) (once c _ t list w h _ _ [] []);
+        chained = λ i j out. twice c _ t list w h _ _ _ _ out;
+        marked = λ lines out e. rw e (once c _ t list w h _ _ _ out);
+        tallied = other c _ t list w h _;
+        saved = other c _ t list w h _;
+        stored = λ out. once c _ t list w h _ _ _ out;
       }
 
   pub as-on-the-course : (t : Terms) (list : List ℕ) → strict t list w ≡ (refused r, v) → AsOnTheCourse t list w r v
@@ -55,7 +55,7 @@ module _ (w : Work) (r : Refusal) (v : Work) where
   as-on-the-course t list h =
       let c = strict-checks t list w [] in
       record {
-        written = λ out. once c _ t list w r v h _ _ _ out;
-        compared = λ i j. ap (λ (p : (Outcome ℕ × Work) × List ℕ). p .0) (once c _ t list w r v h _ _ [] []);
-        chained = λ i j out. twice c _ t list w r v h _ _ _ _ out;
+        written = λ out. once c _ t list w h _ _ _ out;
+        compared = λ i j. ap (λ (p : (Outcome ℕ × Work) × List ℕ). p .0) (once c _ t list w h _ _ [] []);
+        chained = λ i j out. twice c _ t list w h _ _ _ _ out;
       }

@@ -84,12 +84,12 @@ module _ (vs : List ℕ) (p : ℕ) (s : List ℕ) (at : ℕ) where
       rw (one-more vs p j h, begins-append (value-bytes vs p j), length-value-bytes vs p j (omega arith), drop-drop, e, g, f)
 
   -- The mask, then the values: as many as it has ones.
-  module _ (m k : ℕ) (n : k ≡ ones m) where
+  module _ (m : ℕ) {k : ℕ} (n : k ≡ ones m) where
     pub same-stamp :
-        (v : ℕ) (a b : Bool) → v ≡ m → a ≡ begins (four-bytes v) (drop at s) → b ≡ begins (value-bytes vs p k) (drop (at + 4) s)
+        {v : ℕ} {a b : Bool} → v ≡ m → a ≡ begins (four-bytes v) (drop at s) → b ≡ begins (value-bytes vs p k) (drop (at + 4) s)
         → (a && b) ≡ begins (slot-stamp m vs p) (drop at s)
     unfolding slot-stamp stamp-bytes four-bytes
-    same-stamp v a b w e f = rw (begins-append (four-bytes m) (value-bytes vs p (ones m)) (drop at s), drop-drop 4 at s, e, f, w, n)
+    same-stamp w e f = rw (begins-append (four-bytes m) (value-bytes vs p (ones m)) (drop at s), drop-drop 4 at s, e, f, w, n)
 
     pub ends-early : p + ones m ≤ length vs → length s - at < 4 + 2 * k → false ≡ begins (slot-stamp m vs p) (drop at s)
     ends-early h l = begins-short (slot-stamp m vs p) (drop at s) (omega (arith, length-slot-stamp vs p m h, length-drop at s))
@@ -101,14 +101,14 @@ pub record Walked (list masks vs s : List ℕ) (at place i : ℕ) : Type 0 where
   pub begin : place ≡ values-begin masks i
   pub rest : stamps-refused 0 (slot-pieces list masks vs) s ≡ stamps-refused i (pieces-from list masks vs (how-many list - i) i) (drop at s)
 
-module _ (list masks vs s : List ℕ) (slots : Slots list masks vs) where
+module _ {list masks vs s : List ℕ} (slots : Slots list masks vs) where
   pub walk-start : Walked list masks vs s 0 0 0
   unfolding all-ones
   walk-start =
       let e : how-many list - 0 ≡ how-many list = omega arith in
       record { within = omega arith; inside = omega arith; begin = refl; rest = rw e }
 
-  module _ (at place i : ℕ) (w : Walked list masks vs s at place i) where
+  module _ {at place i : ℕ} (w : Walked list masks vs s at place i) where
     pub fits : i < how-many list → place + ones (getD masks i 0) ≤ length vs
     fits l = rw (w .begin) (values-there list masks vs slots i l)
 
@@ -125,14 +125,14 @@ module _ (list masks vs s : List ℕ) (slots : Slots list masks vs) where
         let e : how-many list - i ≡ suc (how-many list - suc i) = omega arith in
         w .rest ∙ rw (e, w .begin)
 
-    module _ (l : i < how-many list) (same : Bool) (q : same ≡ begins (kind-piece (kind-at list i) (getD masks i 0) vs place) (drop at s)) where
+    module _ (l : i < how-many list) {same : Bool} (q : same ≡ begins (kind-piece (kind-at list i) (getD masks i 0) vs place) (drop at s)) where
       pub walk-stop : same ≡ false → _≡_ {A = Refusal} (record { number = 18; position = i }) (stamps-refused 0 (slot-pieces list masks vs) s)
       walk-stop e = sym (next l ∙ rw (← q, e))
 
       pub walk-more :
-          (size carried : ℕ) → size ≡ kind-size (kind-at list i) (getD masks i 0) → carried ≡ ones (getD masks i 0) → same ≡ true
+          {size carried : ℕ} → size ≡ kind-size (kind-at list i) (getD masks i 0) → carried ≡ ones (getD masks i 0) → same ≡ true
           → Walked list masks vs s (at + size) (place + carried) (i + 1)
-      walk-more size carried f g e =
+      walk-more {size} {carried} f g e =
           let t = kind-piece (kind-at list i) (getD masks i 0) vs place in
           let h : length t ≡ size = length-kind-piece vs place (getD masks i 0) (fits l) (kind-at list i) ∙ sym f in
           record {

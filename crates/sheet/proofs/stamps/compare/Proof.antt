@@ -15,7 +15,7 @@ abbrev μ-loop : tie.MeasureT-loop
 μ-loop list masks values stamps m at₀ place₀ i₀ at place i = m - i
 
 loop-holds : tie.Need-loop-holds Inv-loop μ-loop
-loop-holds c = walk-start _ _ _ _ (c .before .before .before .before .pre)
+loop-holds c = walk-start (c .before .before .before .before .pre)
 
 mul-mask : tie.Need-mul-mask Inv-loop μ-loop
 mul-mask c = omega (arith, c .before .before .before .before .before .before .before .pre .each-mask)
@@ -26,13 +26,13 @@ shared-slice-read-mask c = omega (arith, c .before .before .before .before .befo
 same-piece-requires : tie.Need-same-piece-requires Inv-loop μ-loop
 same-piece-requires c κs =
     let l = c .before .before .before in
-    (l .loop .inv .inside, fits _ _ _ _ (l .before .before .before .before .before .pre) _ _ _ (l .loop .inv) (c .before .before .loop-test .taken))
+    (l .loop .inv .inside, fits (l .before .before .before .before .before .pre) (l .loop .inv) (c .before .before .loop-test .taken))
 
 returns : tie.Need-returns Inv-loop μ-loop
 returns c =
     let l = c .before .before .before .before .before .before in
     c .of-event .ensures
-    ∙ walk-stop _ _ _ _ (l .before .before .before .before .before .pre) _ _ _ (l .loop .inv) (c .before .before .before .before .before .loop-test .taken) _ (c .before .before .same-piece .ensures) (not-true _ (c .before .if1 .taken))
+    ∙ walk-stop (l .before .before .before .before .before .pre) (l .loop .inv) (c .before .before .before .before .before .loop-test .taken) (c .before .before .same-piece .ensures) (not-true _ (c .before .if1 .taken))
 
 add-at : tie.Need-add-at Inv-loop μ-loop
 add-at c = omega (arith, c .before .before .before .before .before .before .loop .inv .inside)
@@ -40,12 +40,12 @@ add-at c = omega (arith, c .before .before .before .before .before .before .loop
 add-place : tie.Need-add-place Inv-loop μ-loop
 add-place c =
     let l = c .before .before .before .before .before .before .before in
-    omega (arith, fits _ _ _ _ (l .before .before .before .before .before .pre) _ _ _ (l .loop .inv) (c .before .before .before .before .before .before .loop-test .taken))
+    omega (arith, fits (l .before .before .before .before .before .pre) (l .loop .inv) (c .before .before .before .before .before .before .loop-test .taken))
 
 loop-again : tie.Need-loop-again Inv-loop μ-loop
 loop-again c =
     let l = c .before .before .before .before .before .before .before in
-    walk-more _ _ _ _ (l .before .before .before .before .before .pre) _ _ _ (l .loop .inv) (c .before .before .before .before .before .before .loop-test .taken) _ (c .before .before .before .same-piece .ensures) _ _
+    walk-more (l .before .before .before .before .before .pre) (l .loop .inv) (c .before .before .before .before .before .before .loop-test .taken) (c .before .before .before .same-piece .ensures)
     (c .before .piece-size .ensures .0) (c .ones-in .ensures .0) (not-false _ (c .before .before .if1 .left))
 
 returns-2 : tie.Need-returns-2 Inv-loop μ-loop
@@ -53,7 +53,7 @@ returns-2 c =
     let l = c .before .before in
     let a = l .before .before .before .before .before .args in
     c .left-over .ensures
-    ∙ walk-end (a .list .now) (a .masks .now) (a .values .now) (a .stamps .now) (l .before .before .before .before .before .pre) _ _ _ (l .loop .inv) (c .before .loop-test .left)
+    ∙ walk-end (l .before .before .before .before .before .pre) (l .loop .inv) (c .before .loop-test .left)
 
 pub compare-spec : {M : Type 1} → statement M
 compare-spec =
