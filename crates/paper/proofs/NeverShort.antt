@@ -10,6 +10,7 @@ use lib.Dec.{eqb, ltb}
 use lib.ListN.{length, drop}
 use borrow.Author.Tests.{eqb-true, le-ltb}
 use Rattle.paper.specs.Buffers.{ample, lacking, nine}
+use Rattle.paper.specs.Claims.NeverShort.{Other, NeverShort}
 use Rattle.paper.specs.Class.{list-checks, class-checks, class}
 use Rattle.paper.specs.Event.{Event, how-many, events-of}
 use Rattle.paper.specs.Machine.{State, start, offered, shape, answer, answers, answers-of, accepted-of}
@@ -27,9 +28,6 @@ use Rattle.paper.proofs.ReadExactly.{early-says}
 use Rattle.paper.proofs.Sheets.Checks.{neither, equal, not-below, in-order, list-passed}
 use Rattle.paper.proofs.Sheets.Layout.{written-long}
 use Rattle.paper.proofs.Sheets.Sizes.{stamps-short}
-
-abbrev pub Other : ℕ → Type 0
-Other c = (c ≢ 9) × (c ≢ 21)
 
 -- A number of such checks is kept by what puts 0 for the two numbers.
 abbrev kept : ℕ → ℕ
@@ -171,22 +169,6 @@ module _ (b : List ℕ) where
       whole-first : (x : Bool) → Other (first x 30 (reading-checks b ample [] .early))
       whole-first true = (λ e. omega arith, λ e. omega arith)
       whole-first false = early-other
-
--- The outcomes that the programs print.
-pub record NeverShort : Type 0 where
-  pub classed :
-      (t : Terms) (list answered : List ℕ) → 512 ≤ length answered → (r : Refusal) → class t list ample answered .0 .0 ≡ refused r → Other (r .number)
-  pub written :
-      (t : Terms) (list out : List ℕ) → 38936 ≤ length out → (r : Refusal) → writing t list ample out .0 .0 ≡ refused r → Other (r .number)
-  pub read : (b : List ℕ) (r : Refusal) → reading b ample .0 ≡ refused r → Other (r .number)
-  pub numbered :
-      (b numbers : List ℕ) → 512 ≤ length numbers → (r : Refusal) → reading-lamport b ample numbers .0 .0 ≡ refused r → Other (r .number)
-  pub compared : (b : List ℕ) (i j : ℕ) (r : Refusal) → comparing-sheet b ample i j .0 ≡ refused r → Other (r .number)
-  pub chained :
-      (b : List ℕ) (i j : ℕ) (out : List ℕ) → 31 ≤ length out → (r : Refusal) → chaining-sheet b ample i j out .0 .0 ≡ refused r → Other (r .number)
-  pub marked :
-      (b lines out : List ℕ) → 200 ≤ length out → (r : Refusal) → marking b lines ample out .0 .0 ≡ refused r → Other (r .number)
-  pub tallied : (b : List ℕ) (r : Refusal) → tallying b ample .0 ≡ refused r → Other (r .number)
 
 pub never-short : NeverShort
 unfolding class writing reading comparing-sheet chaining-sheet marking tallying

@@ -7,6 +7,8 @@ pub mod PupilA
 pub mod SavedA
 pub mod Elsewhere
 pub mod Slots
+pub mod Lent
+pub mod NeverShort
 pub mod LamportRule
 pub mod LeftOut
 pub mod Agrees
