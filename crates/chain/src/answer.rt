@@ -3,7 +3,7 @@ ghost use Rattle.lines.specs.Text.{Printed};
 ghost use Rattle.chain.specs.Answer.{chain-answer};
 use clock::Position;
 use desk::PAGE;
-use order::Chained;
+use teaching::Chained;
 
 // What `chain` prints: the chain from one event of a sheet to another.
 pub fn chain_answer(sheet: &[u8], first: Position, second: Position, out: &mut [u8; PAGE]) -> usize
@@ -13,7 +13,7 @@ pub fn chain_answer(sheet: &[u8], first: Position, second: Position, out: &mut [
     let mut masks = [0u32; 512];
     let mut values = [0u16; 16384];
     let mut chain = [0u16; 31];
-    let c = order::chain_sheet(
+    let c = teaching::chain_sheet(
         sheet,
         &mut clocks,
         &mut masks,

@@ -16,11 +16,11 @@ use clock::Position;
 use clock::Terms;
 use course::Classed;
 use layout::Wrote;
-use order::Chained;
 use order::Compared;
 use percentage::Saved;
 use pupil::Marked;
 use sheet::Reading;
+use teaching::Chained;
 
 // Reading a sheet.
 #[no_mangle]
@@ -166,7 +166,7 @@ pub extern "C" fn oboefinch_chain(
     let a = Position(first);
     let b = Position(second);
     let terms = Terms::plain(n);
-    match order::chain(terms, list, clocks, masks, values, a, b, chain) {
+    match teaching::chain(terms, list, clocks, masks, values, a, b, chain) {
         Chained::Refused(r) => pack::refusal(r),
         Chained::Done(length) => pack::fields(0, 0, 0, length),
     }

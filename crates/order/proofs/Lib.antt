@@ -1,7 +1,4 @@
 pub mod Judging
-mod Asked
-mod Linked
-mod OfSheet
-mod Seeking
-mod Walking
+pub mod Asked
+pub mod OfSheet
 pub mod One

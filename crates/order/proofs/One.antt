@@ -2,9 +2,7 @@
 use mathlib.Core.Path.{_≡_, sym, ap}
 use Rattle.clock.proofs.One.{one-refusal, one-number}
 use Rattle.paper.proofs.OneOutcome.{same-refused, same-done, not-both}
-use Rattle.order.specs.Said.{compared, chained}
-use Rattle.order.specs.declared.Chained as declared-chained
-use Rattle.order.specs.declared.Chained.the-variants as chained-as
+use Rattle.order.specs.Said.{compared}
 use Rattle.order.specs.declared.Compared as declared-compared
 use Rattle.order.specs.declared.Compared.the-variants as compared-as
 
@@ -13,9 +11,3 @@ one-compared (compared-as.Refused r) (compared-as.Refused s) h = ap compared-as.
 one-compared (compared-as.Done v) (compared-as.Done w) h = ap compared-as.Done (one-number v w (same-done h))
 one-compared (compared-as.Refused r) (compared-as.Done w) h = absurd (not-both h)
 one-compared (compared-as.Done v) (compared-as.Refused s) h = absurd (not-both (sym h))
-
-pub one-chained : (r s : declared-chained.Chained) → chained r ≡ chained s → r ≡ s
-one-chained (chained-as.Refused r) (chained-as.Refused s) h = ap chained-as.Refused (one-refusal r s (same-refused h))
-one-chained (chained-as.Done k) (chained-as.Done l) h = ap chained-as.Done (same-done h)
-one-chained (chained-as.Refused r) (chained-as.Done l) h = absurd (not-both h)
-one-chained (chained-as.Done k) (chained-as.Refused s) h = absurd (not-both (sym h))

@@ -1,4 +1,3 @@
 pub mod Said
 pub mod Judge
 pub mod Rest
-pub mod Walk

@@ -1,12 +1,10 @@
 -- What is left of a question once the checks before it are passed and the accepted events stand in the work buffers.
 use Prim.Native.Nat.{ℕ}
-use mathlib.Core.Bool.{not}
 use mathlib.Core.List.{List}
 use mathlib.Core.Path.{_≡_}
-use lib.Dec.{eqb, ltb}
 use Rattle.paper.specs.Buffers.{Work}
-use Rattle.paper.specs.Questions.{comparison, linking}
-use Rattle.paper.specs.Refusals.{first, Checks, Outcome}
+use Rattle.paper.specs.Questions.{comparison}
+use Rattle.paper.specs.Refusals.{Checks, Outcome}
 use Rattle.paper.specs.Stands.{Stands}
 use Rattle.paper.specs.Terms.{Terms}
 
@@ -19,11 +17,3 @@ pub record Past (c : Checks) (t : Terms) (list : List ℕ) (w w′ : Work) : Typ
 -- From the work buffers w′ on, comparing ends with r and w″ as the whole call does, whatever the checks were and whatever was lent.
 pub record Compares (t : Terms) (list : List ℕ) (w′ : Work) (a b : ℕ) (r : Outcome ℕ) (w″ : Work) : Type 0 where
   pub ends : (c : Checks) (w : Work) → Past c t list w w′ → (r, w″) ≡ comparison c t list w a b
-
--- The same of the chain, with the output.
-pub record Links (t : Terms) (list : List ℕ) (w′ : Work) (a b : ℕ) (out : List ℕ) (r : Outcome ℕ) (w″ : Work) (out′ : List ℕ) : Type 0 where
-  pub ends : (c : Checks) (w : Work) → Past c t list w w′ → ((r, w″), out′) ≡ linking c t list w a b out
-
--- 22 of a verdict, then 21 of fewer slots than the room for a chain, or 0.
-abbrev pub past-20 : ℕ → ℕ → ℕ → ℕ
-past-20 verdict room slots = first (not (eqb verdict 1)) 22 (first (ltb slots room) 21 0)

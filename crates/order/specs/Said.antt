@@ -2,15 +2,9 @@
 use Prim.Native.Nat.{ℕ}
 use Rattle.clock.specs.Said.{refusal, number}
 use Rattle.paper.specs.Refusals.{Outcome, refused, done}
-use Rattle.order.specs.declared.Chained as declared-chained
-use Rattle.order.specs.declared.Chained.the-variants as chained-as
 use Rattle.order.specs.declared.Compared as declared-compared
 use Rattle.order.specs.declared.Compared.the-variants as compared-as
 
 abbrev pub compared : declared-compared.Compared → Outcome ℕ
 compared (compared-as.Refused r) = refused (refusal r)
 compared (compared-as.Done v) = done (number v)
-
-abbrev pub chained : declared-chained.Chained → Outcome ℕ
-chained (chained-as.Refused r) = refused (refusal r)
-chained (chained-as.Done k) = done k

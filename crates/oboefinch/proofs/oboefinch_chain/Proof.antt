@@ -1,7 +1,7 @@
 use native.Mathlib.Omega.{arith}
 use native.Mathlib.Omega.{arith}
 use mathlib.Core.Path.{ap}
-use Rattle.order.specs.Said.{chained}
+use Rattle.teaching.specs.Said.{chained}
 use Rattle.oboefinch.specs.Packed.{chain-fields}
 use Rattle.oboefinch.proofs.Calls.{chaining-small}
 use Rattle.oboefinch.proofs.Given.{small-output, answer-output}

@@ -1,7 +1,7 @@
 -- The text is that of the chain's outcome.
 use mathlib.Core.Path.{ap, sym, _∙_}
 use Rattle.course.specs.Said.{work}
-use Rattle.order.specs.Said.{chained}
+use Rattle.teaching.specs.Said.{chained}
 use Rattle.paper.specs.Buffers.{Work}
 use Rattle.desk.proofs.Printed.{printed-as}
 use Rattle.chain.proofs.Asked.{chain-refused, chain-done}

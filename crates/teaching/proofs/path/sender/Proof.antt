@@ -3,9 +3,9 @@ use borrow.Author.Needs.{needs}
 use Prim.Native.Nat.{_-_}
 use native.Mathlib.Omega.{arith}
 use Rattle.paper.specs.Event.{how-many}
-use Rattle.order.proofs.Seeking.{Seeking, seek-start, seek-room, seek-more, seek-found}
-use Rattle.order.proofs.path.sender.Statement.{statement}
-use Rattle.order.proofs.path.sender.Tie as tie
+use Rattle.teaching.proofs.Seeking.{Seeking, seek-start, seek-room, seek-more, seek-found}
+use Rattle.teaching.proofs.path.sender.Statement.{statement}
+use Rattle.teaching.proofs.path.sender.Tie as tie
 
 abbrev Inv-loop : tie.InvT-loop
 Inv-loop list message c₀ c = Seeking list (message .0) c

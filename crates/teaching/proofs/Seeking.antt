@@ -11,7 +11,7 @@ use borrow.Author.Tests.{eqb-true, eq-eqb, not-true, not-false}
 use Rattle.clock.specs.Event.{kind-at, message-at}
 use Rattle.paper.specs.Event.{send}
 use Rattle.paper.proofs.Laws.Tests.{and-both, and-true}
-use Rattle.order.specs.Walk.{is-send-of, Sent}
+use Rattle.teaching.specs.Walk.{is-send-of, Sent}
 
 -- The send sought stands at c or later.
 pub record Seeking (list : List ℕ) (message c : ℕ) : Type 0 where

@@ -1,7 +1,7 @@
 -- Both sides of the test are what the accessors read.
 use borrow.Author.Needs.{needs}
-use Rattle.order.proofs.path.has_learnt.Statement.{statement}
-use Rattle.order.proofs.path.has_learnt.Tie as tie
+use Rattle.teaching.proofs.path.has_learnt.Statement.{statement}
+use Rattle.teaching.proofs.path.has_learnt.Tie as tie
 
 returns : tie.Need-returns
 returns c = rw (c .before .before .before .process-at .ensures, c .component .ensures)

@@ -5,10 +5,10 @@ use Rattle.paper.specs.Buffers.{Work}
 use Rattle.clock.specs.Said.{stated}
 use Rattle.course.specs.Said.{work}
 use Rattle.sheet.proofs.Accepted.{Accepted, accepted, refuses}
-use Rattle.order.proofs.OfSheet.{chain-refused, some-stands, chain-done}
+use Rattle.teaching.proofs.OfSheet.{chain-refused, some-stands, chain-done}
 use borrow.Author.Needs.{needs}
-use Rattle.order.proofs.chain_sheet.Statement.{statement}
-use Rattle.order.proofs.chain_sheet.Tie as tie
+use Rattle.teaching.proofs.chain_sheet.Statement.{statement}
+use Rattle.teaching.proofs.chain_sheet.Tie as tie
 
 -- The function's entry and the slots, from behind `sheet::read`; and `sheet::read` from where its contents are known.
 abbrev entry : tie.After-read → tie.Start

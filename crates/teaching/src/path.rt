@@ -9,7 +9,7 @@ ghost use Rattle.clock.specs.Event.{process-at};
 ghost use Rattle.clock.specs.Said.{stated};
 ghost use Rattle.paper.specs.Machine.{accepted-of};
 ghost use Rattle.paper.specs.Questions.{chain-slots};
-ghost use Rattle.order.specs.Walk.{Standing, Reaches, path, knows, is-send-of, Sent};
+ghost use Rattle.teaching.specs.Walk.{Standing, Reaches, path, knows, is-send-of, Sent};
 use clock::Message;
 use clock::Position;
 use clock::Process;

@@ -4,8 +4,8 @@ use native.Mathlib.Omega.{arith}
 use Prim.Native.Nat.{ℕ, _+_, _*_}
 use lib.ListN.{getD}
 use borrow.Author.Needs.{needs}
-use Rattle.order.proofs.path.component.Statement.{statement}
-use Rattle.order.proofs.path.component.Tie as tie
+use Rattle.teaching.proofs.path.component.Statement.{statement}
+use Rattle.teaching.proofs.path.component.Tie as tie
 
 returns : tie.Need-returns
 returns c = let a = c .before .before .before .before .args in ap (λ (k : ℕ). getD (a .clocks .now) (a .n * a .a .0 + k) 0) (c .before .wide .ensures .0)

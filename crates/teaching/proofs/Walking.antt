@@ -27,7 +27,7 @@ use Rattle.paper.specs.Stands.{Held}
 use Rattle.paper.specs.Terms.{Terms}
 use Rattle.paper.proofs.Stands.{small, brief, clock-there, row-long, all, event-there, process-there}
 use Rattle.course.specs.Said.{work}
-use Rattle.order.specs.Walk.{Standing, Reaches, knows, Sent}
+use Rattle.teaching.specs.Walk.{Standing, Reaches, knows, Sent}
 
 module _ {t : Terms} {list clocks : List ℕ} (s : Standing t list clocks) where
   abbrev n : ℕ

@@ -8,11 +8,11 @@ use Rattle.clock.specs.Said.{stated}
 use Rattle.paper.specs.Chain as paper
 use Rattle.paper.specs.Event.{how-many}
 use Rattle.paper.specs.Machine.{accepted-of}
-use Rattle.order.specs.Walk.{knows}
-use Rattle.order.proofs.Walking.{there, process-few, scan-inside, scan-more, scan-found}
+use Rattle.teaching.specs.Walk.{knows}
+use Rattle.teaching.proofs.Walking.{there, process-few, scan-inside, scan-more, scan-found}
 use borrow.Author.Needs.{needs}
-use Rattle.order.proofs.path.learner.Statement.{statement}
-use Rattle.order.proofs.path.learner.Tie as tie
+use Rattle.teaching.proofs.path.learner.Statement.{statement}
+use Rattle.teaching.proofs.path.learner.Tie as tie
 
 abbrev Inv-loop : tie.InvT-loop
 Inv-loop terms list clocks a b p process own c₀ c = c ≤ paper.learner (accepted-of (stated terms) list) a b

@@ -1,7 +1,7 @@
 -- Both sides of the test are what the accessors read.
 use borrow.Author.Needs.{needs}
-use Rattle.order.proofs.path.is_send_of.Statement.{statement}
-use Rattle.order.proofs.path.is_send_of.Tie as tie
+use Rattle.teaching.proofs.path.is_send_of.Statement.{statement}
+use Rattle.teaching.proofs.path.is_send_of.Tie as tie
 
 returns : tie.Need-returns
 returns c = rw (c .before .before .before .message-at .ensures, c .before .before .kind-at .ensures)

@@ -5,21 +5,21 @@ use mathlib.Core.Path.{sym, _∙_}
 use native.Mathlib.Omega.{arith}
 use Rattle.clock.specs.Event.{process-at}
 use Rattle.clock.specs.Said.{stated}
-use Rattle.order.specs.Walk.{Reaches}
-use Rattle.order.proofs.Walking.{stops, was-sent, earlier, onward, fits, turn}
+use Rattle.teaching.specs.Walk.{Reaches}
+use Rattle.teaching.proofs.Walking.{stops, was-sent, earlier, onward, fits, turn}
 use borrow.Author.Needs.{needs}
 use Prim.Native.Nat.{ℕ, _+_, _≤_, _<_}
 use borrow.Fn.Kinds.{In}
 use borrow.Fn.PlainCycle.{Measures, is, falls, and}
-use Rattle.order.proofs.path.walk.Reads as walk
-use Rattle.order.proofs.path.walk.Kinds as walk-kinds
-use Rattle.order.proofs.path.+walk.Lts-walk as walk-lts
+use Rattle.teaching.proofs.path.walk.Reads as walk
+use Rattle.teaching.proofs.path.walk.Kinds as walk-kinds
+use Rattle.teaching.proofs.path.+walk.Lts-walk as walk-lts
 use Rattle.clock.proofs.event.message_at.Reads as message-at-reads
 use Rattle.clock.proofs.event.process_at.Reads as process-at-reads
-use Rattle.order.proofs.path.learner.Reads as learner-reads
-use Rattle.order.proofs.path.sender.Reads as sender-reads
-use Rattle.order.proofs.path.+walk.{statement}
-use Rattle.order.proofs.path.+walk.Tie.{close}
+use Rattle.teaching.proofs.path.learner.Reads as learner-reads
+use Rattle.teaching.proofs.path.sender.Reads as sender-reads
+use Rattle.teaching.proofs.path.+walk.{statement}
+use Rattle.teaching.proofs.path.+walk.Tie.{close}
 
 abbrev μ-walk : Measures 3 walk-kinds.ps ℕ
 μ-walk κs a = a .1 .1 .1 .1 .0 .0

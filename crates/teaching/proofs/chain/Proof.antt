@@ -8,10 +8,10 @@ use Prim.Native.Nat.{ℕ}
 use denote.Ref.{now}
 use Rattle.clock.specs.Said.{stated}
 use Rattle.course.specs.Said.{judged, work}
 use Rattle.order.proofs.Asked.{list-past}
-use Rattle.order.proofs.Linked.{chain-refused, chain-done}
-use Rattle.order.proofs.chain.Statement.{statement}
-use Rattle.order.proofs.chain.Tie as tie
+use Rattle.teaching.proofs.Linked.{chain-refused, chain-done}
+use Rattle.teaching.proofs.chain.Statement.{statement}
+use Rattle.teaching.proofs.chain.Tie as tie
 
 -- The function's entry and the slots, from behind the strict course; and the course, from where its answer is known.
 abbrev entry : tie.After-strict → tie.Start

@@ -1,0 +1,5 @@
+mod Linked
+mod OfSheet
+mod Seeking
+mod Walking
+pub mod One
