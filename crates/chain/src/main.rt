@@ -1,4 +1,6 @@
 // `chain FIRST SECOND < SHEET`: the chain from one event of a sheet to another.
+#![tactic(auto)]
+
 mod answer;
 
 use clock::Position;

@@ -1,4 +1,6 @@
 // `class PROCESSES < LIST`: what becomes of each offer of an event list.
+#![tactic(auto)]
+
 mod answer;
 
 use clock::Terms;

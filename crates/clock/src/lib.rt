@@ -1,4 +1,6 @@
 // Clocks by value, the three sorts of figure, and the verdict on two lent clocks.
+#![tactic(auto)]
+
 pub mod event;
 
 ghost use Rattle.std.specs.Prelude.{◌≡◌, cond, ◌&&◌, not, ◌≤◌, length};

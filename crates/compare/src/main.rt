@@ -1,4 +1,6 @@
 // `compare FIRST SECOND < SHEET`: the verdict on two events of a sheet.
+#![tactic(auto)]
+
 mod answer;
 
 use clock::Position;

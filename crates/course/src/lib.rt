@@ -1,4 +1,6 @@
 // Class mode and the strict course: the outcome of a list of offers, and every slot of the lent buffers.
+#![tactic(auto)]
+
 mod zero;
 
 ghost use Rattle.std.specs.Prelude.{◌≡◌};

@@ -1,6 +1,8 @@
 // What the programs share: the page on which each answer is written, what the arguments say, and printing.
 
 // The bytes of a page, on which each answer is written: half a million hold every text.
+#![tactic(auto)]
+
 pub const PAGE: usize = 500000;
 
 // The number that a program's argument says. A missing argument and one of more than 5 bytes are 0 bytes long here.

@@ -1,4 +1,6 @@
 // Sheets written: the events of a list and their stamps.
+#![tactic(auto)]
+
 mod store;
 
 ghost use Rattle.clock.specs.Said.{stated};

@@ -1,4 +1,6 @@
 // The texts that the programs print, built in a lent buffer. A byte behind the buffer's end is no byte of it: the text is cut there.
+#![tactic(auto)]
+
 ghost use Rattle.std.specs.Prelude.{◌≡◌};
 ghost use Rattle.paper.specs.Listing.{refusal_line};
 ghost use Rattle.clock.specs.Said.{number, refusal};

@@ -1,4 +1,6 @@
 // `listing [lamport] < SHEET`: the events of a sheet with their clocks and masks, and with their Lamport numbers where the word asks for them.
+#![tactic(auto)]
+
 mod answer;
 
 use desk::Wanted;

@@ -1,4 +1,6 @@
 // `marker FILE < SHEET`: the marks of a pupil's list on a sheet, and the total.
+#![tactic(auto)]
+
 mod answer;
 
 use libc::{STDERR_FILENO, STDIN_FILENO, STDOUT_FILENO};

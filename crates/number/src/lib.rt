@@ -1,4 +1,6 @@
 // What a program's argument says: a decimal number, or none.
+#![tactic(auto)]
+
 ghost use Rattle.std.specs.Prelude.{◌≡◌};
 ghost use Rattle.number.specs.Digits.{number_of};
 

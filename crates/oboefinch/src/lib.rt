@@ -1,4 +1,6 @@
 // The C calls: each answers with one number, `number + 256 * x + 65536 * y + 4294967296 * z`.
+#![tactic(auto)]
+
 mod pack;
 
 ghost use Rattle.std.specs.Prelude.{◌≡◌};

@@ -1,4 +1,6 @@
 // Bytes: widths of numbers, little-endian numbers read and stored, and text stored. Every function here takes every input.
+#![tactic(auto)]
+
 mod place;
 pub mod read;
 pub mod store;

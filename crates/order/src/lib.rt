@@ -1,4 +1,6 @@
 // Which of two events of a list or a sheet is before the other.
+#![tactic(auto)]
+
 ghost use Rattle.std.specs.Prelude.{◌≡◌};
 ghost use Rattle.paper.specs.Questions.{comparing, comparing_sheet};
 ghost use Rattle.clock.specs.Said.{stated, ordered};

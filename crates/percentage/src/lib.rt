@@ -1,4 +1,6 @@
 // What the short stamps of a sheet saved: no messages at all, or a percentage of one rounded division.
+#![tactic(auto)]
+
 ghost use Rattle.std.specs.Prelude.{◌≡◌, cond, ◌≤◌, eqb, length};
 ghost use Rattle.paper.specs.Event.{send, how_many};
 ghost use Rattle.paper.specs.Savings as paper;

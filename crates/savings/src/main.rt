@@ -1,4 +1,6 @@
 // `savings < SHEET`: what the short stamps of a sheet saved, in percent, or that it has no messages.
+#![tactic(auto)]
+
 mod answer;
 
 use libc::{STDIN_FILENO, STDOUT_FILENO};

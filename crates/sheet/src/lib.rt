@@ -1,4 +1,6 @@
 // Sheets: read, with every check in its order.
+#![tactic(auto)]
+
 mod header;
 mod reader;
 pub mod stamps;

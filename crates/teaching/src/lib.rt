@@ -1,4 +1,6 @@
 // The teaching chain between two events of a list or a sheet: by which messages the first could have caused the second.
+#![tactic(auto)]
+
 mod path;
 
 ghost use Rattle.std.specs.Prelude.{◌≡◌, ℕ, ◌-◌, length};

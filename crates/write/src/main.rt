@@ -1,4 +1,6 @@
 // `write PROCESSES < LIST`: the sheet of an event list; a refusal goes to standard error.
+#![tactic(auto)]
+
 mod answer;
 
 use answer::Written;
