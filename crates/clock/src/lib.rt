@@ -13,19 +13,19 @@ ghost use Rattle.paper.specs.Terms.{plain};
 ghost use Rattle.clock.specs.Said.{number, ordered, refusal, of_event, stated};
 
 // The number of a process, from 0.
-#[derive(Drop)]
+#[derive(Clone, Copy)]
 pub struct Process(pub u8);
 
 // The position of an event in its list, from 0.
-#[derive(Drop)]
+#[derive(Clone, Copy)]
 pub struct Position(pub usize);
 
 // The number of a message, from 1.
-#[derive(Drop)]
+#[derive(Clone, Copy)]
 pub struct Message(pub u16);
 
 // A refusal number, and the position of the refused event; 0 where no event is refused.
-#[derive(Drop)]
+#[derive(Clone, Copy)]
 pub struct Refusal {
     pub number: u8,
     pub position: Position,
@@ -54,7 +54,7 @@ impl Refusal {
 }
 
 // What a list or a sheet is judged by: the version, how many processes there are, and how many of them are present at the start, which no rule looks at.
-#[derive(Drop)]
+#[derive(Clone, Copy)]
 pub struct Terms {
     pub version: usize,
     pub processes: usize,
@@ -75,7 +75,7 @@ impl Terms {
 }
 
 // Thirty-two numbers, of which the first n are used and the rest stay 0.
-#[derive(Drop)]
+#[derive(Clone, Copy)]
 pub struct Clock {
     pub parts: [u16; 32],
 }
@@ -95,7 +95,7 @@ impl Clock {
     }
 }
 
-#[derive(Drop)]
+#[derive(Clone, Copy)]
 pub enum Verdict {
     Before,
     After,
@@ -118,13 +118,13 @@ impl Verdict {
 }
 
 // What comparing two lent clocks answers.
-#[derive(Drop)]
+#[derive(Clone, Copy)]
 pub enum Ordered {
     Refused(Refusal),
     Done(Verdict),
 }
 
-#[derive(Drop)]
+#[derive(Clone, Copy)]
 struct Both {
     there: bool,
     back: bool,

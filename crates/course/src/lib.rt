@@ -13,14 +13,14 @@ ghost use Rattle.course.specs.Slots.{named, Tail, swept};
 use clock::{Clock, Position, Refusal, Terms};
 
 // What class mode answers: how many events are accepted, and how many values their stamps carry.
-#[derive(Drop)]
+#[derive(Clone, Copy)]
 pub enum Classed {
     Refused(Refusal),
     Done(usize, usize),
 }
 
 // What a strict course answers: how many values the stamps carry.
-#[derive(Drop)]
+#[derive(Clone, Copy)]
 pub enum Judged {
     Refused(Refusal),
     Done(usize),

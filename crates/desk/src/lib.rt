@@ -13,7 +13,7 @@ pub fn argument(i: usize) -> number::Number {
 }
 
 // The two positions that a question names, or that an argument is missing or wrong.
-#[derive(Drop)]
+#[derive(Clone, Copy)]
 pub enum Pair {
     Of(usize, usize),
     Missing,
@@ -30,7 +30,7 @@ pub fn positions() -> Pair {
 }
 
 // Which listing is asked for: no argument, the one word `lamport`, or something else.
-#[derive(Drop)]
+#[derive(Clone, Copy)]
 pub enum Wanted {
     Plain,
     Lamport,

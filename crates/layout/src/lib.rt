@@ -11,7 +11,7 @@ use clock::{Refusal, Terms};
 use course::Judged;
 
 // What writing a sheet answers: how many events, and how many bytes are written.
-#[derive(Drop)]
+#[derive(Clone, Copy)]
 pub enum Wrote {
     Refused(Refusal),
     Done(usize, usize),

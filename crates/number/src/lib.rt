@@ -7,7 +7,7 @@ ghost use Rattle.number.specs.Digits.{number_of};
 mod digits;
 
 // What an argument says.
-#[derive(Drop)]
+#[derive(Clone, Copy)]
 pub enum Number {
     Is(usize),
     None,

@@ -14,7 +14,7 @@ use course::Judged;
 use sheet::Reading;
 
 // What comparing two events of a list answers.
-#[derive(Drop)]
+#[derive(Clone, Copy)]
 pub enum Compared {
     Refused(Refusal),
     Done(Verdict),

@@ -14,7 +14,7 @@ use clock::{Position, Refusal};
 use sheet::Reading;
 
 // What is counted of a sheet: processes, events, sends, and the values that the stamps carry.
-#[derive(Drop)]
+#[derive(Clone, Copy)]
 pub struct Counts {
     pub processes: usize,
     pub events: usize,
@@ -23,21 +23,21 @@ pub struct Counts {
 }
 
 // What counting answers.
-#[derive(Drop)]
+#[derive(Clone, Copy)]
 pub enum Counted {
     Refused(Refusal),
     Done(Counts),
 }
 
 // No messages at all, or a percentage.
-#[derive(Drop)]
+#[derive(Clone, Copy)]
 pub enum Saving {
     NoMessages,
     Percent(f64),
 }
 
 // What is told of a sheet: a refused one has its own answer.
-#[derive(Drop)]
+#[derive(Clone, Copy)]
 pub enum Saved {
     Refused(Refusal),
     Done(Saving),

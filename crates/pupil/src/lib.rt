@@ -16,7 +16,7 @@ use octets::width::{wide, wide16};
 use sheet::Reading;
 
 // What marking answers: the total, and of how many lines.
-#[derive(Drop)]
+#[derive(Clone, Copy)]
 pub enum Marked {
     Refused(Refusal),
     Done(usize, usize),

@@ -11,21 +11,21 @@ use octets::read::{byte_at, four_at, two_at};
 use octets::width::{wide, wide16, wide32};
 
 // A part of a sheet: it begins at `offset` and has `size` bytes.
-#[derive(Drop)]
+#[derive(Clone, Copy)]
 pub(crate) struct Part {
     pub offset: usize,
     pub size: usize,
 }
 
 // The terms, the event list and the stamps.
-#[derive(Drop)]
+#[derive(Clone, Copy)]
 pub(crate) struct Parts {
     pub terms: Terms,
     pub list: Part,
     pub stamps: Part,
 }
 
-#[derive(Drop)]
+#[derive(Clone, Copy)]
 pub(crate) enum Heading {
     Refused(u8),
     Done(Parts),

@@ -12,7 +12,7 @@ use clock::{Refusal, Terms};
 use header::Heading;
 
 // What a sheet says: its terms, where its event list lies, and how many values the stamps carry.
-#[derive(Drop)]
+#[derive(Clone, Copy)]
 pub struct Contents {
     pub terms: Terms,
     pub offset: usize,
@@ -21,7 +21,7 @@ pub struct Contents {
 }
 
 // What reading a sheet answers.
-#[derive(Drop)]
+#[derive(Clone, Copy)]
 pub enum Reading {
     Refused(Refusal),
     Done(Contents),

@@ -18,7 +18,7 @@ use course::Judged;
 use sheet::Reading;
 
 // What asking for the chain from one event to another answers: how many sends it has.
-#[derive(Drop)]
+#[derive(Clone, Copy)]
 pub enum Chained {
     Refused(Refusal),
     Done(usize),

@@ -8,7 +8,7 @@ use desk::PAGE;
 use layout::Wrote;
 
 // What `write` is to print, and how many bytes: a sheet on standard output, or a refusal's line on standard error.
-#[derive(Drop)]
+#[derive(Clone, Copy)]
 pub enum Written {
     Sheet(usize),
     Line(usize),
