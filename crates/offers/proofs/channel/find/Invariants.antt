@@ -1,0 +1,12 @@
+use Prim.Native.Nat.{◌%◌}
+use mathlib.Core.Path.{◌∙◌}
+use Rattle.offers.specs.Tables.{column}
+use Rattle.offers.proofs.Chains.{Chasing}
+use Prim.Native.Nat.{◌-◌}
+use Rattle.offers.proofs.channel.find.Given as goal
+
+abbrev pub invariant-loop-a : goal.invariant-loop-a
+invariant-loop-a l = Chasing (column l.sends 0) l.k l.x.0 l.a
+
+abbrev pub decreases-loop-a : goal.decreases-loop-a
+decreases-loop-a l = l.a
