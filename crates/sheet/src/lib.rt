@@ -37,7 +37,7 @@ pub fn read_lamport(
 ) -> Reading
     ensures numbers { Numbers sheet.now (work clocks.old masks.old values.old) lamports.old
         result (work clocks.new masks.new values.new) lamports.new }
-    ensures fact { Where sheet.now result }
+    ensures place { Where sheet.now result }
 {
     match header::head(sheet) {
         Heading::Refused(number) => Reading::Refused(Refusal::of_call(number)),
@@ -49,7 +49,7 @@ pub fn read_lamport(
 pub fn read(sheet: &[u8], clocks: &mut [u16], masks: &mut [u32], values: &mut [u16]) -> Reading
     ensures reads { Reads sheet.now (work clocks.old masks.old values.old)
         result (work clocks.new masks.new values.new) }
-    ensures fact { Where sheet.now result }
+    ensures place { Where sheet.now result }
 {
     let mut lamports = [0u16; 512];
     read_lamport(sheet, clocks, masks, values, &mut lamports)

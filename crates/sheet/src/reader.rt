@@ -50,7 +50,7 @@ pub(crate) fn judged(
     requires { (header_checks sheet.now 0 ≡ 0) × (p ≡ parts_in sheet.now) }
     ensures numbers { Numbers sheet.now (work clocks.old masks.old values.old) lamports.old
         result (work clocks.new masks.new values.new) lamports.new }
-    ensures fact { Where sheet.now result }
+    ensures place { Where sheet.now result }
 {
     let terms = p.terms;
     let offset = p.list.offset;
