@@ -26,19 +26,19 @@ module _ {list : List ℕ} {message c : ℕ} (k : Seeking list message c) where
   pub seek_room : c < 512
   seek_room = let s = k.sent in omega (arith, k.ahead, s.inside, s.brief)
 
-  pub seek_more : (t : Bool) → t ≡ is_send_of list c message → not t ≡ true → Seeking list message (c + 1)
+  pub seek_more : (t : Bool) → t ≡ is_send_of list c message → t ≡ false → Seeking list message (c + 1)
   seek_more t is h = record { place = k.place; ahead = go (eq-or-lt_of_le k.ahead); sent = k.sent }
     where
       go : (c ≡ k.place) ⊎ (c < k.place) → c + 1 ≤ k.place
       go (inl e) =
           let there : is_send_of list k.place message ≡ true =
           and_true _ _ (eq-eqb (kind_at list k.place) send k.sent.kind) (eq-eqb (message_at list k.place) message k.sent.number) in
-          absurd (false≢true (sym (not-true t h) ∙ is ∙ ap (λ (x : ℕ). is_send_of list x message) e ∙ there))
+          absurd (false≢true (sym h ∙ is ∙ ap (λ (x : ℕ). is_send_of list x message) e ∙ there))
       go (inr l) = omega arith
 
-  pub seek_found : (t : Bool) → t ≡ is_send_of list c message → not t ≡ false → Sent list message c
+  pub seek_found : (t : Bool) → t ≡ is_send_of list c message → t ≡ true → Sent list message c
   seek_found t is h =
-      let (x, y) = and_both (eqb (kind_at list c) send) (eqb (message_at list c) message) (sym is ∙ not-false t h) in
+      let (x, y) = and_both (eqb (kind_at list c) send) (eqb (message_at list c) message) (sym is ∙ h) in
       let s = k.sent in
       record {
         brief = s.brief;

@@ -90,7 +90,7 @@ module _ {t : Terms} {list clocks : List ℕ} (s : Standing t list clocks) where
         own : get_or clocks (n * a + p) 0 ≡ own_number es a
         own = slot p a e r.from
 
-        pub scan_more : {x : Bool} → x ≡ knows n list clocks c (process_at list b) p (get_or clocks (n * a + p) 0) → not x ≡ true → c + 1 ≤ found
+        pub scan_more : {x : Bool} → x ≡ knows n list clocks c (process_at list b) p (get_or clocks (n * a + p) 0) → x ≡ false → c + 1 ≤ found
         scan_more {x} is h = go (eq-or-lt_of_le l)
           where
             here : c ≡ found → knows n list clocks c (process_at list b) p (get_or clocks (n * a + p) 0) ≡ true
@@ -107,16 +107,16 @@ module _ {t : Terms} {list clocks : List ℕ} (s : Standing t list clocks) where
                 )))
 
             go : (c ≡ found) ⊎ (c < found) → c + 1 ≤ found
-            go (inl q) = absurd (false≢true (sym (not-true x h) ∙ is ∙ here q))
+            go (inl q) = absurd (false≢true (sym h ∙ is ∙ here q))
             go (inr q) = omega arith
 
-        pub scan_found : {x : Bool} → x ≡ knows n list clocks c (process_at list b) p (get_or clocks (n * a + p) 0) → not x ≡ false → c ≡ found
+        pub scan_found : {x : Bool} → x ≡ knows n list clocks c (process_at list b) p (get_or clocks (n * a + p) 0) → x ≡ true → c ≡ found
         scan_found {x} is h = go (eq-or-lt_of_le l)
           where
             go : (c ≡ found) ⊎ (c < found) → c ≡ found
             go (inl q) = q
             go (inr q) =
-                let (u, y) = and_both (eqb (process_at list c) (process_at list b)) (leb (get_or clocks (n * a + p) 0) (get_or clocks (n * c + p) 0)) (sym is ∙ not-false x h) in
+                let (u, y) = and_both (eqb (process_at list c) (process_at list b)) (leb (get_or clocks (n * a + p) 0) (get_or clocks (n * c + p) 0)) (sym is ∙ h) in
                 let k = leb-true (get_or clocks (n * a + p) 0) (get_or clocks (n * c + p) 0) y in
                 absurd (crossed.none_earlier c q
                 (process c scan_inside ∙ eqb-true (process_at list c) (process_at list b) u ∙ sym (process b r.to))

@@ -1,0 +1,15 @@
+-- The first check that holds, in the order of the definition.
+use borrow.Author.Tests.{lt-ltb, le-ltb}
+use Rattle.teaching.proofs.late_number.Goals as goal
+
+pub returns-then-first-m : goal.returns-then-first-m
+returns-then-first-m c = rw c.if-first-m.true
+
+pub returns-then-not-is_before : goal.returns-then-not-is_before
+returns-then-not-is_before c = rw (c.if-first-m.false, ← c.is_before.ensures, c.if-not-is_before.true)
+
+pub returns-then-slots-room : goal.returns-then-slots-room
+returns-then-slots-room c = rw (c.if-first-m.false, ← c.is_before.ensures, c.if-not-is_before.false, ← c.room.ensures, lt-ltb _ _ c.if-slots-room.true)
+
+pub returns : goal.returns
+returns c = rw (c.if-first-m.false, ← c.is_before.ensures, c.if-not-is_before.false, ← c.room.ensures, le-ltb _ _ c.if-slots-room.false)
