@@ -1,10 +1,10 @@
 -- Class mode's outcome, with what every lent slot holds, from what the course of offers left behind.
-use Prim.Native.Nat.{ℕ, ◌-◌, ◌≤◌}
+use Prim.Native.Nat.{ℕ, ◌-◌}
 use native.Mathlib.Nat.{zero-add}
 use native.Mathlib.Omega.{arith}
-use mathlib.Core.Path.{◌≡◌, refl, sym, ap, ◌∙◌}
+use mathlib.Core.Path.{◌≡◌, sym, ap, ◌∙◌}
 use mathlib.Core.Logic.{◌≢◌, inl, inr}
-use mathlib.Core.Bool.{Bool, true, false, false≢true}
+use mathlib.Core.Bool.{Bool, false, false≢true}
 use mathlib.Core.List.{List, [], ◌∷◌, ◌++◌, append-nil}
 use lib.ListN.{length, drop, replicate}
 use lib.Seq.{sets, sets-eq}
@@ -12,9 +12,8 @@ use borrow.Author.Tests.{eq-eqb, ne_eqb}
 use Rattle.paper.specs.Buffers.{Work, laid, entries, filled}
 use Rattle.paper.specs.Class.{Classed, class_checks, class_lamport}
 use Rattle.paper.specs.Event.{events_of, how_many}
-use Rattle.paper.specs.Lamport.{lamports}
 use Rattle.paper.specs.Machine.{start, answers_of, accepted_of}
-use Rattle.paper.specs.Refusals.{Refusal, of_call, Checks, Outcome, refused, done}
+use Rattle.paper.specs.Refusals.{Refusal, of_call, Outcome, refused, done}
 use Rattle.paper.specs.Terms.{Terms}
 use Rattle.paper.proofs.Laws.Append.{length_answers}
 use Rattle.paper.proofs.Laws.Runs.{length_events}

@@ -1,6 +1,6 @@
 -- The texts over lent slots say what the paper says of the list, where the slots hold its accepted events: the listing's text is the
 -- paper's listing, with Lamport numbers or without, the class text has the line of the right event for every offer, and the chain's text is the chain.
-use Prim.Native.Nat.{ℕ, zero, suc, ◌+◌, ◌-◌, ◌*◌, ◌≤◌, ◌<◌}
+use Prim.Native.Nat.{ℕ, zero, suc, ◌+◌, ◌-◌, ◌≤◌, ◌<◌}
 use mathlib.Core.Path.{◌≡◌, refl, sym, ap, ◌∙◌}
 use mathlib.Core.Bool.{Bool, true, false, cond}
 use mathlib.Core.List.{List, [], ◌∷◌, ◌++◌, append-nil, append_assoc}

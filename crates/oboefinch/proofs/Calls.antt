@@ -3,9 +3,9 @@ use Prim.Native.Nat.{ℕ, min, ◌≤◌}
 use native.Mathlib.Nat.{mul-le-mul}
 use native.Mathlib.Omega.{arith}
 use mathlib.Core.Path.{◌≡◌, refl}
-use mathlib.Core.Bool.{Bool, ◌||◌, not}
+use mathlib.Core.Bool.{◌||◌, not}
 use mathlib.Core.List.{List, [], ◌∷◌}
-use lib.Dec.{eqb, ltb}
+use lib.Dec.{eqb}
 use lib.Ieee.{Float}
 use lib.ListN.{length, drop, length-take}
 use Rattle.paper.specs.Buffers.{Work, nine, entries}
@@ -17,9 +17,9 @@ use Rattle.paper.specs.Marking.{line_count, line_at, wrong_lines, is_right, tota
 use Rattle.paper.specs.Order as order
 use Rattle.paper.specs.Questions.{ordering, strict_checks, asked, comparing, chained, chaining, writing_checks, writing}
 use Rattle.paper.specs.Reading.{header_checks, first_refused, read_of, reading_checks, reading, reading_lamport}
-use Rattle.paper.specs.Refusals.{first, of_call, Refusal, refusal_of, outcome}
+use Rattle.paper.specs.Refusals.{first, of_call, refusal_of, outcome}
 use Rattle.paper.specs.Savings.{Saving, no_messages, percent, saving, counts_in, storing_checks, storing}
-use Rattle.paper.specs.Sheet.{processes_in, terms_in, list_offset, list_size, list_in, stamps_in, piece, pieces, written}
+use Rattle.paper.specs.Sheet.{processes_in, terms_in, list_offset, list_size, list_in, stamps_in, piece, pieces}
 use Rattle.paper.specs.Stamp.{stamps}
 use Rattle.paper.specs.Terms.{Terms, wrong_count}
 use Rattle.paper.proofs.Laws.Masks.{count_le}

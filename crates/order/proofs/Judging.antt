@@ -1,5 +1,5 @@
 -- The verdict on two rows of slots: where both are all there it is that on two lent clocks, and where accepted events stand in the slots it is theirs.
-use Prim.Native.Nat.{ℕ, suc, ◌+◌, ◌-◌, ◌*◌, ◌/◌, ◌≤◌, ◌<◌}
+use Prim.Native.Nat.{ℕ, suc, ◌+◌, ◌-◌, ◌*◌, ◌≤◌, ◌<◌}
 use native.Mathlib.Nat.{le-div_iff_mul-le, mul-suc, mul_comm}
 use native.Mathlib.Omega.{arith}
 use mathlib.Core.Path.{◌≡◌, refl, ap, ◌∙◌}
@@ -11,7 +11,6 @@ use lib.Seq.{length-take-le}
 use borrow.Author.Tests.{le-ltb, lt-ltb, eq-eqb}
 use Rattle.paper.specs.Buffers.{Work}
 use Rattle.paper.specs.Machine.{accepted_of}
-use Rattle.paper.specs.Order.{verdict}
 use Rattle.paper.specs.Questions.{judged, ordering}
 use Rattle.paper.specs.Refusals.{Refusal, of_call, Outcome, refused, done}
 use Rattle.paper.specs.Stands.{Held, row}

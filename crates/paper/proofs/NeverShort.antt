@@ -4,7 +4,6 @@ use Prim.Native.Nat.{ℕ, suc, ◌%◌, ◌≤◌}
 use native.Mathlib.Omega.{arith}
 use mathlib.Core.Bool.{Bool, true, false, cond, ◌||◌, not}
 use mathlib.Core.List.{List, [], ◌∷◌}
-use mathlib.Core.Logic.{◌≢◌}
 use mathlib.Core.Path.{◌≡◌, refl, sym, ap, ◌∙◌, subst}
 use lib.Dec.{eqb, ltb}
 use lib.ListN.{length, drop}
@@ -16,7 +15,7 @@ use Rattle.paper.specs.Event.{Event, how_many, events_of}
 use Rattle.paper.specs.Machine.{State, start, offered, shape, answer, answers, answers_of, accepted_of}
 use Rattle.paper.specs.Marking.{line_count, wrong_lines, marking_checks, marking}
 use Rattle.paper.specs.Questions.{writing_checks, writing, asked, comparing_sheet, chained, chain_slots, chaining_sheet}
-use Rattle.paper.specs.Reading.{header_checks, first_refused, begins, stamps_refused, reading_checks, reading, reading_lamport}
+use Rattle.paper.specs.Reading.{header_checks, first_refused, begins, stamps_refused, reading_checks, reading}
 use Rattle.paper.specs.Refusals.{first, Refusal, of_call, ◌then◌, Checks, refusal_of, refused, outcome}
 use Rattle.paper.specs.Savings.{tallying}
 use Rattle.paper.specs.Sheet.{processes_in, terms_in, list_in, stamps_in, pieces, written}

@@ -1,14 +1,14 @@
 -- From reading to what is told of a sheet: what refuses the sheet refuses every question about it, and an accepted one has the counts of its events.
 use Prim.Native.Nat.{ℕ, ◌+◌, ◌-◌, ◌/◌}
 use native.Mathlib.Omega.{arith}
-use mathlib.Core.Path.{◌≡◌, refl, sym, ap, ap₂, ◌∙◌, subst}
+use mathlib.Core.Path.{◌≡◌, refl, sym, ap, ◌∙◌, subst}
 use mathlib.Core.Bool.{Bool, true, false, cond}
 use mathlib.Core.List.{List, []}
 use lib.Dec.{ltb}
 use lib.Ieee.{Float}
 use lib.ListN.{length, take, drop}
 use borrow.Author.Tests.{eq-eqb, ne_eqb}
-use Rattle.paper.specs.Buffers.{Work, entries, call}
+use Rattle.paper.specs.Buffers.{Work, entries}
 use Rattle.paper.specs.Event.{how_many}
 use Rattle.paper.specs.Machine.{Clocked, accepted_of}
 use Rattle.paper.specs.Reading.{read_of, reading_checks, reading}

@@ -2,7 +2,7 @@
 use Prim.Native.Nat.{ℕ, ◌+◌, ◌-◌, ◌/◌, ◌≤◌}
 use native.Mathlib.Omega.{arith}
 use mathlib.Core.List.{List, []}
-use mathlib.Core.Path.{◌≡◌, sym, ap, ◌∙◌, subst, subst₂}
+use mathlib.Core.Path.{◌≡◌, ap, ◌∙◌, subst, subst₂}
 use lib.ListN.{length, take, drop, length-take, length-drop}
 use Rattle.clock.specs.Said.{refusal, stated}
 use Rattle.clock.specs.declared.Refusal as declared_refusal
@@ -18,7 +18,7 @@ use Rattle.paper.proofs.Also.{call_done}
 use Rattle.paper.proofs.ReadExactly.{reading_number}
 use Rattle.paper.proofs.Sheets.Checks.{placed}
 use Rattle.paper.proofs.Stands.{sheet_stands}
-use Rattle.sheet.specs.Said.{read_as, Where, Reads}
+use Rattle.sheet.specs.Said.{Where, Reads}
 use Rattle.sheet.specs.declared.Contents as declared_contents
 use Rattle.sheet.specs.declared.Reading as declared_reading
 use Rattle.sheet.specs.declared.Reading.TheVariants as code

@@ -1,14 +1,14 @@
 -- The reader's checks in their order: past the header they are those of the strict course and, behind all of them, the recorded stamps.
 use Prim.Native.Nat.{ℕ, ◌+◌, ◌-◌, ◌%◌, ◌≤◌}
 use native.Mathlib.Omega.{arith}
-use mathlib.Core.Path.{◌≡◌, refl, sym, ap, ap₂, ◌∙◌}
+use mathlib.Core.Path.{◌≡◌, sym, ap, ap₂, ◌∙◌}
 use mathlib.Core.Logic.{◌≢◌}
 use mathlib.Core.Bool.{cond}
 use mathlib.Core.List.{List, [], ◌∷◌}
 use lib.Dec.{eqb}
 use lib.ListN.{length, take, drop, length-drop}
 use lib.Seq.{length-take-le}
-use borrow.Author.Tests.{eq-eqb, ne_eqb, le-ltb, le-leb}
+use borrow.Author.Tests.{eq-eqb, ne_eqb, le-ltb}
 use Rattle.paper.specs.Buffers.{Work, laid, nine, entries, filled, cleared, call, further}
 use Rattle.paper.specs.Class.{list_checks}
 use Rattle.paper.specs.Event.{how_many}
@@ -20,7 +20,7 @@ use Rattle.paper.specs.Refusals.{Refusal, of_call, Checks, refusal_of, ◌also�
 use Rattle.paper.specs.Sheet.{terms_in, list_offset, list_size, list_in, stamps_in, pieces}
 use Rattle.paper.specs.Stands.{Roomy, one_further, Stands}
 use Rattle.paper.specs.Terms.{Terms}
-use Rattle.paper.proofs.Also.{call_done, also_kept, also_cleared, also_left, also_first, also_last}
+use Rattle.paper.proofs.Also.{call_done, also_kept, also_first}
 use Rattle.paper.proofs.Ample.{list_then, header_then}
 use Rattle.paper.proofs.Laws.Refused.{is_refused, after_done}
 use Rattle.paper.proofs.Lent.{lamports_few}

@@ -2,7 +2,6 @@
 use Prim.Native.Nat.{ℕ}
 use mathlib.Core.List.{List}
 use mathlib.Core.Path.{◌≡◌, sym, ap, ◌∙◌}
-use Rattle.clock.specs.Said.{stated}
 use Rattle.clock.proofs.One.{one_refusal, one_stated}
 use Rattle.paper.proofs.OneOutcome.{same_refused, same_done, not_both}
 use Rattle.paper.specs.Reading.{Read}

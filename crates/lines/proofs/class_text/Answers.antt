@@ -1,6 +1,6 @@
 use mathlib.Core.Path.{◌∙◌, sym}
 use native.Mathlib.Omega.{arith}
-use borrow.Author.Tests.{not-true, not-false, le-leb, lt-leb}
+use borrow.Author.Tests.{le-leb, lt-leb}
 use Rattle.lines.specs.Programs.{class_text}
 use Rattle.octets.proofs.Appended.{join}
 use Rattle.lines.proofs.Laws.{printed, unprinted}

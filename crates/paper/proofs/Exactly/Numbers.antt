@@ -15,7 +15,7 @@ use Rattle.paper.specs.Event.{Event, is_send, is_receive, events_of, how_many}
 use Rattle.paper.specs.Machine.{State, start, waiting, member, in_queue, in_front, wrong_peer, wrong_number, shape, answer, offered, answers, answers_of, accepted_of}
 use Rattle.paper.specs.Marking.{line_count, wrong_lines, marking}
 use Rattle.paper.specs.Order.{verdict}
-use Rattle.paper.specs.Questions.{strict_checks, strict, strict_lamport, writing, judged, comparing, chain_slots, chained, chaining, comparing_sheet, chaining_sheet, ordering}
+use Rattle.paper.specs.Questions.{strict_checks, strict, strict_lamport, writing, judged, comparing, chain_slots, chaining, comparing_sheet, chaining_sheet, ordering}
 use Rattle.paper.specs.Reading.{outside, shared, header_checks, first_refused, begins, stamps_refused, reading_checks, reading, reading_lamport}
 use Rattle.paper.specs.Refusals.{first, Refusal, of_call, ◌then◌, Checks, refusal_of, ◌also◌, Outcome, refused, done, outcome}
 use Rattle.paper.specs.Savings.{tallying, savings, storing}

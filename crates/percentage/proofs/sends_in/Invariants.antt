@@ -1,5 +1,5 @@
 use Prim.Native.Nat.{◌≤◌, ◌-◌}
-use mathlib.Core.Path.{◌≡◌, ◌∙◌}
+use mathlib.Core.Path.{◌≡◌}
 use Rattle.paper.specs.Event.{how_many}
 use Rattle.percentage.specs.Slots.{slot_sends}
 use Rattle.percentage.proofs.sends_in.Given as goal

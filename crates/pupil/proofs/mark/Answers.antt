@@ -1,6 +1,5 @@
 -- 30, then the sheet is read, and what is left is left to `marking`.
 use mathlib.Core.Path.{refl}
-use Rattle.paper.specs.Buffers.{Work}
 use Rattle.clock.specs.Said.{stated}
 use Rattle.course.specs.Said.{work}
 use Rattle.sheet.proofs.Accepted.{Accepted, accepted}

@@ -1,5 +1,4 @@
 -- The loop has marked the first j lines.
-use Prim.Native.Nat.{◌-◌}
 use native.Mathlib.Omega.{arith}
 use Rattle.pupil.proofs.Loop.{to_start, to_more, to_end}
 use Rattle.pupil.proofs.mark_all.Goals as goal

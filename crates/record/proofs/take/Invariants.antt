@@ -1,4 +1,3 @@
-use Prim.Native.Nat.{◌^◌, ◌<◌, ◌-◌}
 use Rattle.record.proofs.Taking.{Taken}
 use Rattle.record.proofs.take.Given as goal
 

@@ -1,7 +1,6 @@
 -- The sheet is read, and what is left is left to `linking`.
 use mathlib.Core.Path.{refl}
 use native.Mathlib.Omega.{arith}
-use Rattle.paper.specs.Buffers.{Work}
 use Rattle.clock.specs.Said.{stated}
 use Rattle.course.specs.Said.{work}
 use Rattle.sheet.proofs.Accepted.{Accepted, accepted}

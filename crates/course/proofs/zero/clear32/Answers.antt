@@ -1,5 +1,4 @@
 -- Slots set to 0: the invariant and its laws are those of `Clearing`, whatever the width.
-use Prim.Native.Nat.{◌-◌}
 use Rattle.course.proofs.Clearing.{clear_start, clear_more, clear_end}
 use Rattle.course.proofs.zero.clear32.Goals as goal
 

@@ -1,5 +1,4 @@
 -- What is stored from here on completes the stamps.
-use Prim.Native.Nat.{◌-◌}
 use native.Mathlib.Omega.{arith}
 use Rattle.octets.proofs.Appended.{long}
 use Rattle.layout.proofs.Stored.{put_start, put_fits, put_more, put_end}

@@ -1,5 +1,4 @@
 -- The first j values are stored.
-use Prim.Native.Nat.{◌≤◌, ◌-◌}
 use mathlib.Core.List.{flat_map}
 use mathlib.Core.Path.{◌≡◌}
 use native.Mathlib.Omega.{arith}

@@ -1,5 +1,4 @@
 use Prim.Native.Nat.{◌≤◌, ◌-◌}
-use mathlib.Core.Path.{◌≡◌}
 use Rattle.octets.specs.Appended.{Appended}
 use Rattle.sheet.specs.Slots.{value_bytes}
 use Rattle.layout.proofs.store.put_values.Given as goal

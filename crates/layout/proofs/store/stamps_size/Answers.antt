@@ -1,6 +1,4 @@
 -- What is counted and what is left to count are the whole size.
-use Prim.Native.Nat.{◌≤◌, ◌-◌, ◌+◌, ◌*◌}
-use mathlib.Core.Path.{◌≡◌}
 use native.Mathlib.Omega.{arith}
 use Rattle.layout.proofs.Sizes.{size_more, size_end, size_start}
 use Rattle.layout.proofs.store.stamps_size.Goals as goal

@@ -1,4 +1,3 @@
-use Prim.Native.Nat.{◌≤◌, ◌-◌}
 use native.Mathlib.Omega.{arith}
 use Rattle.octets.proofs.Appended.{long}
 use Rattle.lines.proofs.Laws.{lined_none, lined_more, lined_all}

@@ -1,6 +1,5 @@
 use mathlib.Core.Path.{◌∙◌, sym}
 use native.Mathlib.Omega.{arith}
-use borrow.Author.Tests.{not-true, not-false}
 use Rattle.lines.specs.Slots.{numbered_text}
 use Rattle.octets.proofs.Appended.{join}
 use Rattle.lines.proofs.Laws.{printed, unprinted}

@@ -1,5 +1,4 @@
 use native.Mathlib.Omega.{arith}
-use Prim.Native.Nat.{◌≤◌, ◌-◌}
 use Rattle.octets.proofs.Appended.{long}
 use Rattle.lines.proofs.Laws.{lined_none, lined_more, lined_all}
 use Rattle.lines.proofs.marker.put_marks.Goals as goal

@@ -1,4 +1,3 @@
-use Prim.Native.Nat.{◌-◌}
 use native.Mathlib.Omega.{arith}
 use Rattle.number.proofs.Walks.{made_none, made_more, made_all, made_fits}
 use Rattle.number.proofs.digits.value.Goals as goal

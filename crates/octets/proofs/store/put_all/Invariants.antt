@@ -1,5 +1,5 @@
 use Prim.Native.Nat.{◌≤◌, ◌-◌}
-use mathlib.Core.Path.{◌≡◌, ◌∙◌}
+use mathlib.Core.Path.{◌≡◌}
 use lib.ListN.{take}
 use lib.Seq.{sets}
 use Rattle.octets.proofs.store.put_all.Given as goal

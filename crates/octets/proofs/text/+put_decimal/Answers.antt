@@ -1,6 +1,5 @@
 -- All digits but the last, and behind them the last.
-use native.Mathlib.Omega.{arith}
-use Rattle.octets.proofs.Appended.{same, long, up_to, join}
+use Rattle.octets.proofs.Appended.{same, up_to, join}
 use Rattle.octets.proofs.Decimal.{put_one, put_more, decimal_length}
 use Rattle.octets.proofs.text.+put_decimal.Goals as goal
 

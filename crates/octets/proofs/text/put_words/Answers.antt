@@ -1,5 +1,4 @@
 -- The first i numbers are stored, each in at most 21 bytes.
-use Prim.Native.Nat.{◌-◌}
 use native.Mathlib.Omega.{arith}
 use Rattle.paper.specs.Listing.{word, words}
 use Rattle.octets.proofs.Appended.{long}

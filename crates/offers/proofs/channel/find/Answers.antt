@@ -5,7 +5,6 @@ use native.Mathlib.Omega.{arith}
 use Rattle.offers.proofs.Columns.{column_at}
 use Rattle.offers.proofs.ByTables.{found_nothing}
 use Rattle.offers.proofs.Chains.{chasing_start, chasing_next, chasing_less, chasing_found, chasing_none}
-use Prim.Native.Nat.{◌-◌}
 use Rattle.offers.proofs.channel.find.Goals as goal
 
 pub returns-then-x-eq0 : goal.returns-then-x-eq0

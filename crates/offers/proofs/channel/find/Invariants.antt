@@ -1,8 +1,5 @@
-use Prim.Native.Nat.{◌%◌}
-use mathlib.Core.Path.{◌∙◌}
 use Rattle.offers.specs.Tables.{column}
 use Rattle.offers.proofs.Chains.{Chasing}
-use Prim.Native.Nat.{◌-◌}
 use Rattle.offers.proofs.channel.find.Given as goal
 
 abbrev pub invariant-loop-a : goal.invariant-loop-a

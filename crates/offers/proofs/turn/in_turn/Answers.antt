@@ -1,7 +1,6 @@
 -- The loop over the offers. Its invariant is `Underway`: the tables, the records and the lent slots stand for the run of the plain machine over the
 -- offers tried so far; each turn is one law of `Going`, at places that are named once.
 use mathlib.Core.Path.{refl, sym, ap}
-use Prim.Native.Nat.{◌-◌}
 use native.Mathlib.Omega.{arith}
 use Rattle.offers.specs.declared.Lengths.{Lengths}
 use Rattle.offers.proofs.Going.{underway_start, kept_lengths, ready, countable, turned, small, ran}

@@ -1,5 +1,5 @@
-use Prim.Native.Nat.{◌-◌, ◌*◌, ◌%◌, ◌^◌, ◌≤◌}
-use mathlib.Core.Path.{◌≡◌, ◌∙◌}
+use Prim.Native.Nat.{◌-◌, ◌≤◌}
+use mathlib.Core.Path.{◌≡◌}
 use Rattle.paper.specs.Stamp.{mask}
 use Rattle.record.specs.View.{newer}
 use Rattle.record.proofs.row.grown.Given as goal

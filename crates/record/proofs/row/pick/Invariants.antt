@@ -1,4 +1,3 @@
-use Prim.Native.Nat.{◌-◌, ◌^◌, ◌<◌}
 use Rattle.record.proofs.Picking.{Picked}
 use Rattle.record.proofs.row.pick.Given as goal
 

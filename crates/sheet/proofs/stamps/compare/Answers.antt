@@ -1,8 +1,6 @@
 -- Each event's piece is found where the pieces before it end.
-use Prim.Native.Nat.{◌-◌}
 use mathlib.Core.Path.{◌∙◌}
 use native.Mathlib.Omega.{arith}
-use borrow.Author.Tests.{not-true, not-false}
 use Rattle.sheet.proofs.Compared.{walk_start, fits, walk_stop, walk_more, walk_end}
 use Rattle.sheet.proofs.stamps.compare.Goals as goal
 

@@ -1,5 +1,4 @@
 use Prim.Native.Nat.{◌-◌}
-use mathlib.Core.Path.{◌∙◌}
 use Rattle.sheet.proofs.Compared.{Walked}
 use Rattle.sheet.proofs.stamps.compare.Given as goal
 

@@ -1,5 +1,4 @@
-use Prim.Native.Nat.{◌+◌, ◌*◌, ◌-◌, ◌≤◌, ◌<◌}
-use mathlib.Core.Path.{◌≡◌}
+use Prim.Native.Nat.{◌-◌, ◌≤◌}
 use Rattle.clock.specs.Said.{stated}
 use Rattle.paper.specs.Chain as paper
 use Rattle.paper.specs.Machine.{accepted_of}

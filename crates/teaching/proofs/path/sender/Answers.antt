@@ -1,5 +1,4 @@
 -- The scan does not pass the send that is sought, and stops there.
-use Prim.Native.Nat.{◌-◌}
 use native.Mathlib.Omega.{arith}
 use Rattle.teaching.proofs.Seeking.{seek_start, seek_room, seek_more, seek_found}
 use Rattle.teaching.proofs.path.sender.Goals as goal
