@@ -10,5 +10,6 @@ pub ways-requires : goal.ways-requires
 ways-requires c = same_length _ _ c.if-n-second.false
 
 pub returns : goal.returns
-returns c = let w = c.ways.ensures in
+returns c =
+    let w = c.ways.ensures in
     ap done c.judge.ensures ∙ ordering_judged _ _ _ _ c.if-n-second.false w.0 w.1

@@ -12,10 +12,12 @@ loop-k-init c = search rules
 
 pub loop-k-preserved : goal.loop-k-preserved
 unfolding within
-loop-k-preserved c = let i = c.loop-k.invariant in
+loop-k-preserved c =
+    let i = c.loop-k.invariant in
     (omega arith, rw (add-one, i.1), rw (add-one, i.2))
 
 pub returns : goal.returns
-returns c = let e : c.loop-k.k ≡ length c.args.first.now = omega arith in
+returns c =
+    let e : c.loop-k.k ≡ length c.args.first.now = omega arith in
     let i = c.loop-k.invariant in
     (rw (← e) i.1, rw (← e) i.2)

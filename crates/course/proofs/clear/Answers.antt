@@ -8,9 +8,11 @@ pub tidy-requires : goal.tidy-requires
 tidy-requires c = room _ _ _ (sym c.is_lent.ensures ∙ c.if-is_lent.true)
 
 pub returns-then-is_lent : goal.returns-then-is_lent
-returns-then-is_lent c = let a = c.args in
+returns-then-is_lent c =
+    let a = c.args in
     c.tidy.ensures ∙ swept_wiped a.n a.m (work a.clocks.now a.masks.now a.values.now) (sym c.is_lent.ensures ∙ c.if-is_lent.true)
 
 pub returns-else-is_lent : goal.returns-else-is_lent
-returns-else-is_lent c = let a = c.args in
+returns-else-is_lent c =
+    let a = c.args in
     kept a.n a.m (work a.clocks.now a.masks.now a.values.now) (sym c.is_lent.ensures ∙ c.if-is_lent.false)

@@ -28,9 +28,11 @@ pub overflow_sub-at : goal.overflow_sub-at
 overflow_sub-at c = (some_tried c.run-t.ensures c.if-t-ne0.false c.if-t.false).0
 
 pub bounds-answers-at : goal.bounds-answers-at
-bounds-answers-at c = let t = some_tried c.run-t.ensures c.if-t-ne0.false c.if-t.false in
+bounds-answers-at c =
+    let t = some_tried c.run-t.ensures c.if-t-ne0.false c.if-t.false in
     omega (arith, t.0, t.1)
 
 pub returns : goal.returns
-returns c = let g = c.of_event.ensures in
+returns c =
+    let g = c.of_event.ensures in
     strict_stopped c.run-t.ensures c.if-t-ne0.false refl c.if-t.false (ap (λ (r : Refusal). r.number) g) (ap (λ (r : Refusal). r.position) g) c.tidy-2.ensures c.clear16-2.ensures

@@ -15,5 +15,6 @@ returns-then-chain-len c = simp (le-leb _ _ c.if-len-gt-EVENTS.false, lt-leb _ _
 
 pub returns : goal.returns
 unfolding chain_text
-returns c = let a = c.put_chain.ensures in
+returns c =
+    let a = c.put_chain.ensures in
     simp (le-leb _ _ c.if-len-gt-EVENTS.false, le-leb _ _ c.if-chain-len.false) (printed (rw sub-zero at a.0) (omega (arith, a.1)))

@@ -19,6 +19,7 @@ put_offers-requires c = (sym c.fits.ensures ∙ c.if-not-fits.false, c.if-answer
 
 pub returns : goal.returns
 unfolding class_text
-returns c = let a = c.put_class_head-k.ensures in
+returns c =
+    let a = c.put_class_head-k.ensures in
     let b = c.put_offers.ensures in
     simp (sym c.fits.ensures ∙ c.if-not-fits.false, le-leb _ _ c.if-answers-m.false) (printed (join a.0 b.0) (omega (arith, a.1, b.1)))

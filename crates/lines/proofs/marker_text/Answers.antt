@@ -15,6 +15,7 @@ returns-then-marks-len c = simp (le-leb _ _ c.if-len-gt200.false, lt-leb _ _ c.i
 
 pub returns : goal.returns
 unfolding marker_text
-returns c = let a = c.put_marks-k.ensures in
+returns c =
+    let a = c.put_marks-k.ensures in
     let b = c.put_total.ensures in
     simp (le-leb _ _ c.if-len-gt200.false, le-leb _ _ c.if-marks-len.false) (printed (join a.0 b.0) (omega (arith, a.1, b.1)))

@@ -7,7 +7,8 @@ use Rattle.lines.proofs.refusal_text.Goals as goal
 
 pub returns : goal.returns
 unfolding refusal_line text
-returns c = let a = c.put_named-a.ensures in
+returns c =
+    let a = c.put_named-a.ensures in
     let x = rw c.wide.ensures.0 at a.0 in
     let b = c.put_named-b.ensures in
     let d = c.put.ensures in

@@ -7,7 +7,8 @@ use Rattle.lines.proofs.saved_text.Goals as goal
 
 pub returns : goal.returns
 unfolding saved_line text
-returns c = let a = c.put_named-a.ensures in
+returns c =
+    let a = c.put_named-a.ensures in
     let p = c.put-b.ensures in
     let x = rw c.digit.ensures at c.put-c.ensures in
     let y = rw c.digit-2.ensures at c.put-d.ensures in

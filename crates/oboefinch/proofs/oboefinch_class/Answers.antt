@@ -7,18 +7,22 @@ use Rattle.oboefinch.proofs.Plain as plain
 use Rattle.oboefinch.proofs.oboefinch_class.Goals as goal
 
 pub refusal-requires : goal.refusal-requires
-refusal-requires c = let e = plain.class c.plain-terms.ensures _ _ _ c.in-Refused.ensures in
+refusal-requires c =
+    let e = plain.class c.plain-terms.ensures _ _ _ c.in-Refused.ensures in
     (small_output class_fields refl e (class_small _ _ _ _)).y
 
 pub fields-requires : goal.fields-requires
-fields-requires c = let e = plain.class c.plain-terms.ensures _ _ _ c.in-Done.ensures in
+fields-requires c =
+    let e = plain.class c.plain-terms.ensures _ _ _ c.in-Done.ensures in
     let s = small_output class_fields refl e (class_small _ _ _ _) in
     omega (arith, s.y, s.z)
 
 pub returns-in-Refused : goal.returns-in-Refused
-returns-in-Refused c = let e = plain.class c.plain-terms.ensures _ _ _ c.in-Refused.ensures in
+returns-in-Refused c =
+    let e = plain.class c.plain-terms.ensures _ _ _ c.in-Refused.ensures in
     answer_output class_fields refl e c.refusal.ensures
 
 pub returns-in-Done : goal.returns-in-Done
-returns-in-Done c = let e = plain.class c.plain-terms.ensures _ _ _ c.in-Done.ensures in
+returns-in-Done c =
+    let e = plain.class c.plain-terms.ensures _ _ _ c.in-Done.ensures in
     answer_output class_fields refl e c.fields.ensures

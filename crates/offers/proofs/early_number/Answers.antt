@@ -18,7 +18,8 @@ pub returns-then-list : goal.returns-then-list
 returns-then-list c = rw (eq-eqb _ 1 c.if-terms-ne1.false, c.if-n.false, c.if-list.true)
 
 pub is_scant-requires : goal.is_scant-requires
-is_scant-requires c = let list = c.args.list in
+is_scant-requires c =
+    let list = c.args.list in
     let few = (right_count _).0 c.if-n.false in
     let size = (neither (not (eqb (list % 8) 0)) (ltb 4096 list) (equal (list % 8) 0) (not_below 4096 list)).0 c.if-list.false in
     (few.1, omega (arith, size.1))

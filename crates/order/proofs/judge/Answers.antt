@@ -10,7 +10,8 @@ use Rattle.order.proofs.judge.Goals.{Else-first-rows}
 there :
     (c : goal.Else-first-rows) → let a = c.args in
     (a.n * a.first.0 + a.n ≤ length a.clocks.now) × (a.n * a.second.0 + a.n ≤ length a.clocks.now)
-there c = let a = c.args in
+there c =
+    let a = c.args in
     rows_there a.n a.clocks.now a.first.0 a.second.0 c.if-n.false c.if-first-rows.false
 
 pub returns-then-n : goal.returns-then-n

@@ -23,7 +23,8 @@ pub slice_bounds-sends_in-end : goal.slice_bounds-sends_in-end
 slice_bounds-sends_in-end c = omega (arith, (sheet_accepted (goal.at.slice_bounds-sends_in-end c).In-Done).inside)
 
 pub sends_in-sends-requires : goal.sends_in-sends-requires
-sends_in-sends-requires c = let x = c.in-Done.c in
+sends_in-sends-requires c =
+    let x = c.in-Done.c in
     omega (arith, (sheet_accepted (goal.at.sends_in-sends-requires c).In-Done).few, length-take (x.offset + x.size - x.offset) (drop x.offset c.args.sheet.now))
 
 pub returns-in-Refused : goal.returns-in-Refused

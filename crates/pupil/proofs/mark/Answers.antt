@@ -14,7 +14,8 @@ sheet_accepted :
 sheet_accepted c = accepted _ _ {c = c.in-Done.c} refl (c.in-Done.ensures.reads, c.in-Done.ensures.place)
 
 pub returns-then-lines : goal.returns-then-lines
-returns-then-lines c = let a = c.args in
+returns-then-lines c =
+    let a = c.args in
     mark_30 a.sheet.now a.lines.now (work a.clocks.now a.masks.now a.values.now) a.marks.now c.if-lines.true c.of_call.ensures
 
 pub marking-requires : goal.marking-requires

@@ -24,7 +24,8 @@ counted : (c : goal.After-count)
 counted c = both_as c.requires.5 c.count.ensures.1
 
 pub regrown-all-requires : goal.regrown-all-requires
-regrown-all-requires c = let a = c.args in
+regrown-all-requires c =
+    let a = c.args in
     let last = get_or (row a.running.now 2) a.to.0 0 in
     let u = row a.running.now 1 in (
       omega (arith, c.requires.0),
@@ -32,12 +33,14 @@ regrown-all-requires c = let a = c.args in
     )
 
 pub gather-mask-requires : goal.gather-mask-requires
-gather-mask-requires c = let h = c.requires in
+gather-mask-requires c =
+    let h = c.requires in
     (h.3, h.4, record { bits = _; is = c.regrown-all.ensures })
 
 pub returns : goal.returns
 unfolding news
-returns c = let a = c.args in
+returns c =
+    let a = c.args in
     let h = c.requires in
     let n = c.count in
     let b = counted (goal.at.returns c).After-count in

@@ -12,7 +12,8 @@ word : (c : goal.Start) → c.args.mask < 2 ^ 32
 word c = omega (arith, c.ranges.mask)
 
 pub returns-then-is_roomy : goal.returns-then-is_roomy
-returns-then-is_roomy c = let a = c.args in
+returns-then-is_roomy c =
+    let a = c.args in
     sym (le-leb (a.at + ones a.mask) a.len (omega (arith, few_bits a.mask (word (goal.at.returns-then-is_roomy c).Start), leb-true (a.at + 32) a.len (sym c.is_roomy.ensures ∙ c.if-is_roomy.true))))
 
 pub overflow_cast-mask : goal.overflow_cast-mask

@@ -14,11 +14,13 @@ allowed : (c : goal.Then-is_countable) → let a = c.args in countable a.by.0 (r
 allowed c = rw c.is_countable.ensures at c.if-is_countable.true
 
 pub count-requires : goal.count-requires
-count-requires c = let a = c.args in
+count-requires c =
+    let a = c.args in
     counted a.by.0 (row a.running.now 0) (allowed (goal.at.count-requires c).Then-is_countable)
 
 pub returns-then-is_countable : goal.returns-then-is_countable
-returns-then-is_countable c = let a = c.args in
+returns-then-is_countable c =
+    let a = c.args in
     let r = a.running.now in
     let i = a.by.0 in
     let n = c.count in
@@ -26,5 +28,6 @@ returns-then-is_countable c = let a = c.args in
     (rw n.ensures.1 (counted_rows c.rows.ensures (counted i (row r 0) (allowed (goal.at.returns-then-is_countable c).Then-is_countable)).0 n.ensures.0 (both r i _ _ c.rows.ensures)))
 
 pub returns : goal.returns
-returns c = let a = c.args in
+returns c =
+    let a = c.args in
     tick_no a.by.0 (view a.running.now) (rw c.is_countable.ensures at c.if-is_countable.false)

@@ -10,6 +10,7 @@ pub returns-then-at-len : goal.returns-then-at-len
 returns-then-at-len c = let a = c.args in roomy_less a.len a.at a.n (omega arith)
 
 pub returns : goal.returns
-returns c = let a = c.args in
+returns c =
+    let a = c.args in
     let h : a.len < a.at + a.n = omega arith in
     sym (lt-leb _ _ h)

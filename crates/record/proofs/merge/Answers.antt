@@ -19,14 +19,17 @@ allowed : (c : goal.Then-is_countable-has_values)
 allowed c = rw (c.is_countable.ensures, c.has_values.ensures) at c.if-is_countable-has_values.true
 
 pub take-requires : goal.take-requires
-take-requires c = let a = c.args in
+take-requires c =
+    let a = c.args in
     let f = merge_fits a.by.0 a.mask a.values.now a.at (row a.running.now 0) (word (goal.at.take-requires c).Start) (allowed (goal.at.take-requires c).Then-is_countable-has_values) in
     (f.0, f.1, f.2, c.rows.ensures)
 
 pub returns-then-is_countable-has_values : goal.returns-then-is_countable-has_values
-returns-then-is_countable-has_values c = let a = c.args in
+returns-then-is_countable-has_values c =
+    let a = c.args in
     merge_yes a.by.0 a.mask a.values.now a.at (view a.running.now) (allowed (goal.at.returns-then-is_countable-has_values c).Then-is_countable-has_values) c.take.ensures
 
 pub returns : goal.returns
-returns c = let a = c.args in
+returns c =
+    let a = c.args in
     merge_no a.by.0 a.mask a.values.now a.at (view a.running.now) (rw (c.is_countable.ensures, c.has_values.ensures) at c.if-is_countable-has_values.false)

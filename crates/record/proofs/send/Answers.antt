@@ -18,7 +18,8 @@ allowed : (c : goal.Then-is_countable-j)
 allowed c = rw (c.is_countable.ensures, c.is_roomy.ensures) at c.if-is_countable-j.true
 
 pub cut-mask-requires : goal.cut-mask-requires
-cut-mask-requires c = let a = c.args in
+cut-mask-requires c =
+    let a = c.args in
     let f = send_fits a.from.0 a.to.0 a.n a.out.now a.at (row a.running.now 0) (allowed (goal.at.cut-mask-requires c).Then-is_countable-j) in
     (f.0, f.1, f.2, f.3, f.4, c.rows.ensures)
 
@@ -26,10 +27,12 @@ pub overflow_cast-result : goal.overflow_cast-result
 overflow_cast-result c = omega (arith, few_ones _ _ _ c.cut-mask.ensures.0, c.ranges.n)
 
 pub returns-then-is_countable-j : goal.returns-then-is_countable-j
-returns-then-is_countable-j c = let a = c.args in
+returns-then-is_countable-j c =
+    let a = c.args in
     let e = c.cut-mask.ensures in
     send_yes a.from.0 a.to.0 a.n a.out.now a.at (view a.running.now) (allowed (goal.at.returns-then-is_countable-j c).Then-is_countable-j) e.1 e.0 (ap ones e.0 ∙ ones_mask _ _) e.2
 
 pub returns : goal.returns
-returns c = let a = c.args in
+returns c =
+    let a = c.args in
     send_no a.from.0 a.to.0 a.n a.out.now a.at (view a.running.now) (rw (c.is_countable.ensures, c.is_roomy.ensures) at c.if-is_countable-j.false)

@@ -62,10 +62,12 @@ pub loop-rest-smaller : goal.loop-rest-smaller
 loop-rest-smaller c = let r = c.loop-rest.rest in omega (arith, and_le_r r (r - 1))
 
 pub loop-rest-preserved : goal.loop-rest-preserved
-loop-rest-preserved c = let u = c.loop-rest.invariant in
+loop-rest-preserved c =
+    let u = c.loop-rest.invariant in
     let m = word (goal.at.loop-rest-preserved c).Start in
     elim c.if-running-k.branch [ then-running-k g ↦ rw g.running-is (taken_grew u m c.loop-rest-test.true refl g.if-running-k.true) | else-running-k g ↦ rw g.running-is (taken_kept u m c.loop-rest-test.true refl g.if-running-k.false) ]
 
 pub returns : goal.returns
-returns c = let h = c.requires in
+returns c =
+    let h = c.requires in
     taken_end c.loop-rest.invariant (word (goal.at.returns c).Start) h.3 h.0 c.count-own.ensures.0 (counted (goal.at.returns c).After-count-own) c.loop-rest-test.false

@@ -15,7 +15,8 @@ pub overflow_add-size-2 : goal.overflow_add-size-2
 overflow_add-size-2 c = omega (arith, c.requires.2, c.stamps_size-stamped.ensures.1)
 
 pub returns-then-out-size : goal.returns-then-out-size
-returns-then-out-size c = let a = c.args in
+returns-then-out-size c =
+    let a = c.args in
     short_out (stated a.terms) a.list.now (work a.clocks.now a.masks.now a.values.now) a.out.now c.stamps_size-stamped.ensures.0 c.of_call.ensures
     c.if-out-size.true c.clear.ensures
 

@@ -6,7 +6,8 @@ use Rattle.lines.proofs.Slots.{words_are}
 use Rattle.lines.proofs.event.put_event_words.Goals as goal
 
 pub returns : goal.returns
-returns c = let s = c.args in
+returns c =
+    let s = c.args in
     let many : s.n * s.a + s.n - s.n * s.a ≡ s.n = omega arith in
     let a = c.put_fields-k.ensures in
     let b = c.put_stamp.ensures in

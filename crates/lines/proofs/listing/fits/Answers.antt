@@ -15,7 +15,8 @@ unfolding fitting
 returns-then-list-gt4096 c = simp (le-leb _ _ c.if-n-gt-PROCESSES.false, lt-leb _ _ c.if-list-gt4096.true)
 
 pub overflow_mul-result : goal.overflow_mul-result
-overflow_mul-result c = let s = c.args in
+overflow_mul-result c =
+    let s = c.args in
     let few : length s.list.now / 8 ≤ 512 = omega arith in
     let small : s.n * (length s.list.now / 8) ≤ 32 * 512 = mul-le-mul c.if-n-gt-PROCESSES.false few in
     record { fits = omega arith }

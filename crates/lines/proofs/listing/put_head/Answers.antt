@@ -6,7 +6,8 @@ use Rattle.lines.proofs.listing.put_head.Goals as goal
 
 pub returns : goal.returns
 unfolding head_line text
-returns c = let a = c.put_named-a.ensures in
+returns c =
+    let a = c.put_named-a.ensures in
     let b = c.put_named-b.ensures in
     let d = c.put_named-c.ensures in
     let e = c.put.ensures in

@@ -14,6 +14,7 @@ put_events-requires c = sym c.fits.ensures ∙ c.if-not-fits.false
 
 pub returns : goal.returns
 unfolding numbered_text
-returns c = let a = c.put_head-k.ensures in
+returns c =
+    let a = c.put_head-k.ensures in
     let b = c.put_events.ensures in
     rw (sym c.fits.ensures ∙ c.if-not-fits.false) (printed (join a.0 b.0) (omega (arith, a.1, b.1)))

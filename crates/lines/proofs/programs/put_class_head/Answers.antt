@@ -6,7 +6,8 @@ use Rattle.lines.proofs.programs.put_class_head.Goals as goal
 
 pub returns : goal.returns
 unfolding class_head text
-returns c = let a = c.put_named-a.ensures in
+returns c =
+    let a = c.put_named-a.ensures in
     let b = c.put_named-b.ensures in
     let d = c.put_named-c.ensures in
     let e = c.put_named-d.ensures in

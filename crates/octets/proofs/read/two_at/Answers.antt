@@ -6,6 +6,7 @@ use Rattle.octets.proofs.Places.{byte_past}
 use Rattle.octets.proofs.read.two_at.Goals as goal
 
 pub returns : goal.returns
-returns c = let a = c.args in
+returns c =
+    let a = c.args in
     let upper = c.byte_at-2.ensures.0 ∙ ap (byte a.s.now) c.past.ensures ∙ byte_past a.s.now a.k 1 (omega arith) in
     (omega (arith, upper), omega arith)

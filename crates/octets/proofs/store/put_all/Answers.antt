@@ -20,7 +20,8 @@ pub shape_of-out : goal.shape_of-out
 shape_of-out c = ap length c.loop-i.invariant.1 ∙ simp length-sets
 
 pub returns : goal.returns
-returns c = let e : c.loop-i.i ≡ c.within-count.result = omega arith in
+returns c =
+    let e : c.loop-i.i ≡ c.within-count.result = omega arith in
     record {
       lent = omega arith;
       place = search rules;

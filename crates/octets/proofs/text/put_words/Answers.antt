@@ -9,7 +9,8 @@ pub loop-i-init : goal.loop-i-init
 loop-i-init c = written_none word 21 _ _ _ (omega arith) (omega arith)
 
 pub loop-i-preserved : goal.loop-i-preserved
-loop-i-preserved c = let p = c.put_word-k.ensures in
+loop-i-preserved c =
+    let p = c.put_word-k.ensures in
     written_more word 21 c.loop-i.invariant c.loop-i-test.true (rw c.wide16.ensures.0 at p.0) p.1
 
 pub shape_of-out : goal.shape_of-out
@@ -17,5 +18,6 @@ shape_of-out c = long c.loop-i.invariant.is
 
 pub returns : goal.returns
 unfolding words
-returns c = let a = c.loop-i.invariant in
+returns c =
+    let a = c.loop-i.invariant in
     (written_all word 21 a c.loop-i-test.false, omega (arith, a.short, a.within))

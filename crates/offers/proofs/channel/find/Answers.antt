@@ -33,7 +33,8 @@ loop-a-smaller c = rw (c.wide16-a-in-loop-a.ensures.0, ← column_at c.args.send
     (chasing_less c.requires.1 c.if-x-eq0.false c.loop-a.invariant c.loop-a-test.true)
 
 pub loop-a-preserved : goal.loop-a-preserved
-loop-a-preserved c = let sends = c.args.sends.now in
+loop-a-preserved c =
+    let sends = c.args.sends.now in
     rw (c.wide16-a-in-loop-a.ensures.0, ← column_at sends 4)
     (chasing_next c.requires.1 c.if-x-eq0.false c.loop-a.invariant c.loop-a-test.true (λ q. c.if-sends-a.false (sym (column_at sends 0 _) ∙ q)))
 

@@ -15,7 +15,8 @@ pub returns-then-a-ne0 : goal.returns-then-a-ne0
 returns-then-a-ne0 c = c.shaped-a.ensures ∙ shape_first _ _ _ (λ z. c.if-a-ne0.true (c.shaped-a.ensures ∙ z))
 
 pub by_tables-requires : goal.by_tables-requires
-by_tables-requires c = let s = fit (goal.at.by_tables-requires c).Else-a-ne0 in
+by_tables-requires c =
+    let s = fit (goal.at.by_tables-requires c).Else-a-ne0 in
     let p = c.requires in
     (λ k. (omega (arith, s.process, p.0), omega (arith, p.0, peer_below _ _ s (λ q. omega arith))), p.1)
 

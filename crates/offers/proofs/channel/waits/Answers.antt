@@ -10,14 +10,16 @@ use Rattle.offers.proofs.channel.waits.Goals.{Else-wide16-c}
 -- What was sent, was sent on the channel.
 on : (c : goal.Else-wide16-c)
     → get_or (column c.args.sends.now 1) c.args.at 0 ≡ c.channel_number-c.result
-on c = let a = c.args in
+on c =
+    let a = c.args in
     column_at a.sends.now 1 a.at ∙ sym c.wide16.ensures.0 ∙ c.if-wide16-c.false
 
 pub returns-then-k-at : goal.returns-then-k-at
 returns-then-k-at c = tables_unknown _ _ _ _ _ _ c.requires.0 c.if-k-at.true
 
 pub returns-then-wide16-c : goal.returns-then-wide16-c
-returns-then-wide16-c c = let a = c.args in
+returns-then-wide16-c c =
+    let a = c.args in
     tables_elsewhere _ _ _ _ _ _ c.requires.0 c.if-k-at.false c.channel_number-c.ensures.0
     (λ q. c.if-wide16-c.true (c.wide16.ensures.0 ∙ sym (column_at a.sends.now 1 a.at) ∙ q))
 

@@ -7,7 +7,8 @@ use Rattle.offers.specs.Scaling.{next_lamport}
 use Rattle.offers.proofs.lamport.advance.Goals as goal
 
 pub returns-then-s-ne0 : goal.returns-then-s-ne0
-returns-then-s-ne0 c = let a = c.args in
+returns-then-s-ne0 c =
+    let a = c.args in
     let h = c.requires in
     let is : c.one_up-l.result ≡ next_lamport a.latest.now a.lamports.now a.by.0 a.s.from a.at.0 =
     omega (arith, c.one_up-l.ensures, c.value_of-t.ensures, h.3, h.4) in

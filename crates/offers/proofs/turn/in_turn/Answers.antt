@@ -10,7 +10,8 @@ pub loop-i-init : goal.loop-i-init
 loop-i-init c = underway_start _ _ _ _ _
 
 pub slot-p-requires : goal.slot-p-requires
-slot-p-requires c = let r = c.requires in
+slot-p-requires c =
+    let r = c.requires in
     let u = c.loop-i.invariant in
     (omega (arith, r.bytes, u.high), omega (arith, r.short, u.high))
 
@@ -24,18 +25,21 @@ pub bounds-records-own : goal.bounds-records-own
 bounds-records-own c = omega (arith, c.slot-p.ensures.0)
 
 pub offered-s-requires : goal.offered-s-requires
-offered-s-requires c = let s = c.slot-p.ensures in
+offered-s-requires c =
+    let s = c.slot-p.ensures in
     ready c.requires c.loop-i.invariant c.loop-i-test.true s.1 s.0
 
 pub slice_bounds-advance-end : goal.slice_bounds-advance-end
 slice_bounds-advance-end c = sym c.loop-i.invariant.scaled.processes
 
 pub advance-requires : goal.advance-requires
-advance-requires c = let s = c.slot-p.ensures in
+advance-requires c =
+    let s = c.slot-p.ensures in
     countable c.requires c.loop-i.invariant c.loop-i-test.true s.1 s.0 _
 
 pub added-tally-requires : goal.added-tally-requires
-added-tally-requires c = let s = c.slot-p.ensures in
+added-tally-requires c =
+    let s = c.slot-p.ensures in
     small c.requires c.loop-i.invariant c.loop-i-test.true s.1 s.0 c.offered-s.ensures
 
 pub end_after-end-requires : goal.end_after-end-requires
@@ -48,7 +52,8 @@ pub loop-i-smaller : goal.loop-i-smaller
 loop-i-smaller c = omega (arith, c.loop-i-test.true, c.loop-i.invariant.high)
 
 pub loop-i-preserved : goal.loop-i-preserved
-loop-i-preserved c = let s = c.slot-p.ensures in
+loop-i-preserved c =
+    let s = c.slot-p.ensures in
     turned c.requires c.loop-i.invariant c.loop-i-test.true s.1 s.0 c.offered-s.ensures c.advance.ensures c.added-tally.ensures c.end_after-end.ensures
 
 pub shape_of-clocks : goal.shape_of-clocks

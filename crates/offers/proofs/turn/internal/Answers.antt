@@ -5,7 +5,8 @@ use Rattle.record.proofs.Limits.{ticked_within}
 use Rattle.offers.proofs.turn.internal.Goals as goal
 
 pub returns : goal.returns
-returns c = let a = c.args in
+returns c =
+    let a = c.args in
     let h = c.requires in
     record {
       one = refl;

@@ -16,7 +16,8 @@ loop-k-init c = search rules
 
 pub loop-k-preserved : goal.loop-k-preserved
 unfolding upto
-loop-k-preserved c = let l = c.loop-k in
+loop-k-preserved c =
+    let l = c.loop-k in
     let a = c.args in (
       omega arith,
       rw length-set l.invariant.1,

@@ -37,7 +37,8 @@ pub returns-then-a-ne0 : goal.returns-then-a-ne0
 returns-then-a-ne0 c = refused_moved c.requires (sym c.read-e.ensures) c.refused.ensures.0 c.refused.ensures.1 (plain (goal.at.returns-then-a-ne0 c).After-judge-a) c.if-a-ne0.true
 
 pub send-requires : goal.send-requires
-send-requires c = let p = c.requires in
+send-requires c =
+    let p = c.requires in
     let is = sym c.read-e.ensures in (
       p_small p is (yea (goal.at.send-requires c).Else-a-ne0),
       q_small p is (yea (goal.at.send-requires c).Else-a-ne0) (λ q. omega (arith, c.if-e-eq1.true)),
@@ -55,7 +56,8 @@ pub returns-then-e-eq1 : goal.returns-then-e-eq1
 returns-then-e-eq1 c = send_moved c.requires (sym c.read-e.ensures) (yea (goal.at.returns-then-e-eq1 c).Else-a-ne0) c.if-e-eq1.true c.if-a-ne0.false c.send.ensures
 
 pub receive-requires : goal.receive-requires
-receive-requires c = let p = c.requires in
+receive-requires c =
+    let p = c.requires in
     let is = sym c.read-e.ensures in
     let h = c.if-e-eq2.true in
     let f = c.find-at.ensures in
@@ -73,15 +75,18 @@ receive-requires c = let p = c.requires in
     )
 
 pub returns-then-e-eq2 : goal.returns-then-e-eq2
-returns-then-e-eq2 c = let n = c.receive.ensures in
+returns-then-e-eq2 c =
+    let n = c.receive.ensures in
     receive_moved c.requires (sym c.read-e.ensures) (yea (goal.at.returns-then-e-eq2 c).Else-a-ne0) c.if-e-eq2.true c.find-at.ensures c.if-a-ne0.false (n.1 _) n.0
 
 pub internal-requires : goal.internal-requires
-internal-requires c = let p = c.requires in
+internal-requires c =
+    let p = c.requires in
     let is = sym c.read-e.ensures in
     (p_small p is (yea (goal.at.internal-requires c).Else-a-ne0), own_small p is (yea (goal.at.internal-requires c).Else-a-ne0), p.clock_room, p.few, p.mask_room)
 
 pub returns : goal.returns
-returns c = let p = c.requires in
+returns c =
+    let p = c.requires in
     let is = sym c.read-e.ensures in
     internal_moved p is (yea (goal.at.returns c).Else-a-ne0) (omega (arith, (fit p is (yea (goal.at.returns c).Else-a-ne0)).kind, c.if-e-eq1.false, c.if-e-eq2.false)) c.if-a-ne0.false c.internal.ensures

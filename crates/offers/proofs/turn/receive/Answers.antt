@@ -13,7 +13,8 @@ pub overflow_add-counts : goal.overflow_add-counts
 overflow_add-counts c = omega (arith, rw (← c.channel_number-ch.ensures.0, column_at c.args.channels.now 1) at c.requires.8)
 
 pub returns : goal.returns
-returns c = let a = c.args in
+returns c =
+    let a = c.args in
     let h = c.requires in
     let begins = c.wide16-a.ensures.0 ∙ sym (column_at a.sends.now 3 a.at) in
     let r = view a.running.now in

@@ -10,14 +10,16 @@ use Rattle.record.proofs.Limits.{sent_within}
 use Rattle.offers.proofs.turn.send.Goals as goal
 
 pub note-requires : goal.note-requires
-note-requires c = let p = c.requires in
+note-requires c =
+    let p = c.requires in
     (omega arith, p.5, p.6, rw c.channel_number-ch.ensures.0 p.9)
 
 pub overflow_mul-n : goal.overflow_mul-n
 overflow_mul-n c = let p = c.requires in omega (arith, p.4, p.5, mul-le-mul p.4 (le_of_lt p.5))
 
 pub returns : goal.returns
-returns c = let a = c.args in
+returns c =
+    let a = c.args in
     let h = c.requires in
     let tb = tables a.sends.now a.channels.now a.head.now in
     let t = ap (λ (z : ℕ). noted tb a.tally.accepted a.e.message.0 z a.tally.carried) c.channel_number-ch.ensures.0 in

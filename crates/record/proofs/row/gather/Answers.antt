@@ -22,15 +22,18 @@ pub nonzero_rem-m : goal.nonzero_rem-m
 nonzero_rem-m c = omega (arith, divisor (goal.at.nonzero_rem-m c).Start, mask_lt c.requires.2.bits c.args.n)
 
 pub overflow_cast-m-2 : goal.overflow_cast-m-2
-overflow_cast-m-2 c = let w = c.requires.2 in
+overflow_cast-m-2 c =
+    let w = c.requires.2 in
     let two : 2 ^ c.args.n ≤ 2 ^ 32 = pow_mono c.requires.1 in
     omega (arith, kept (goal.at.overflow_cast-m-2 c).Start w.bits w.is, mask_lt w.bits c.args.n)
 
 pub pick-requires : goal.pick-requires
-pick-requires c = let w = c.requires.2 in
+pick-requires c =
+    let w = c.requires.2 in
     rw (kept (goal.at.pick-requires c).Start w.bits w.is, count_kept w.bits c.args.n c.requires.1) (omega (arith, c.requires.0, count_le w.bits c.args.n))
 
 pub returns : goal.returns
-returns c p e = let a = c.args in
+returns c p e =
+    let a = c.args in
     let k = kept (goal.at.returns c).Start p e in
     (k, c.pick.ensures ∙ ap (λ (x : ℕ). sets a.out.now a.at (values (bit x) a.clock.now 32)) k ∙ ap (sets a.out.now a.at) (values_kept p a.clock.now a.n c.requires.1))

@@ -18,7 +18,8 @@ loop-k-init c = search rules
 
 pub loop-k-preserved : goal.loop-k-preserved
 unfolding mask
-loop-k-preserved c = let l = c.loop-k in
+loop-k-preserved c =
+    let l = c.loop-k in
     let a = c.args in
     let p = newer a.updated.now a.last in
     elim c.if-last-updated.branch [

@@ -19,7 +19,8 @@ inside : (c : goal.In-loop-rest) → count_trailing_zeros 32 c.loop-rest.rest < 
 inside c = bit_below _ _ _ _ c.loop-rest.invariant (word (goal.at.In-loop-rest c).Start) c.loop-rest-test.true
 
 room : (c : goal.In-loop-rest) → c.loop-rest.c < length c.args.out.now
-room c = let l = c.loop-rest in
+room c =
+    let l = c.loop-rest in
     omega (arith, c.requires, value_below _ _ _ _ l.invariant (word (goal.at.In-loop-rest c).Start) c.loop-rest-test.true)
 
 pub bounds-out-c : goal.bounds-out-c

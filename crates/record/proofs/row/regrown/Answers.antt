@@ -19,14 +19,16 @@ word i = (1 * 2 ^ i) % 2 ^ 32
 -- The mask with bit i set, for each function that says so.
 marked : (c : goal.Start) (q : ℕ → Bool) → ((k : ℕ) → (k ≡ c.args.i → ⊥) → c.requires.1.bits k ≡ q k) → q c.args.i ≡ true
     → bit_or c.args.earlier (word c.args.i) ≡ mask q 32
-marked c q others own = let a = c.args in
+marked c q others own =
+    let a = c.args in
     let w = c.requires.1 in
     ap (bit_or a.earlier) (one_shl a.i c.requires.0) ∙ ap (λ (x : ℕ). bit_or x (2 ^ a.i)) w.is
     ∙ bit_anew w.bits q a.i 32 c.requires.0 others own
 
 -- Where the own component is none of those that grew, its bit comes off again.
 unmarked : (c : goal.Else-last-updated) → bit_or c.args.earlier (word c.args.i) ≡ mask (newer c.args.updated.now c.args.last) 32 + word c.args.i
-unmarked c = let a = c.args in
+unmarked c =
+    let a = c.args in
     let w = c.requires.1 in
     let p = newer a.updated.now a.last in
     let q = at w.bits a.i true in

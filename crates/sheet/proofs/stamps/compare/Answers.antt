@@ -31,6 +31,7 @@ loop-i-preserved c = walk_more c.requires c.loop-i.invariant c.loop-i-test.true 
     c.piece_size-at.ensures.0 c.ones_in-place.ensures.0 (c.if-not-same_piece.false)
 
 pub returns : goal.returns
-returns c = let a = c.args in
+returns c =
+    let a = c.args in
     c.left_over.ensures
     ∙ walk_end c.requires c.loop-i.invariant c.loop-i-test.false

@@ -10,12 +10,14 @@ unfolding begins flat_map
 loop-j-init c = (omega arith, refl)
 
 pub loop-j-preserved : goal.loop-j-preserved
-loop-j-preserved c = let a = c.args in (
-  omega arith,
-  same_more a.values.now a.place a.s.now a.at _ _ _ c.loop-j.j (omega arith) c.loop-j.invariant.1 c.wide16.ensures.0
-      c.same_two-same.ensures,
-)
+loop-j-preserved c =
+    let a = c.args in (
+      omega arith,
+      same_more a.values.now a.place a.s.now a.at _ _ _ c.loop-j.j (omega arith) c.loop-j.invariant.1 c.wide16.ensures.0
+          c.same_two-same.ensures,
+    )
 
 pub returns : goal.returns
-returns c = let e : c.loop-j.j ≡ c.args.k = omega arith in
+returns c =
+    let e : c.loop-j.j ≡ c.args.k = omega arith in
     rw (← e) c.loop-j.invariant.1

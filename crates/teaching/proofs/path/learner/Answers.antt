@@ -29,22 +29,26 @@ tested c = rw (c.process_at-process.ensures, c.component-own.ensures) at c.has_l
 onward :
     (c : goal.In-loop-terms) → let a = c.args in
     c.loop-terms.c + 1 ≤ paper.learner (accepted_of (stated a.terms) a.list.now) a.first.0 a.second.0
-onward c = let s = c.requires in
+onward c =
+    let s = c.requires in
     scan_more s.0 s.1 s.2 c.process_at-p.ensures c.loop-terms.invariant (tested (goal.at.In-loop-terms c).After-has_learnt) c.loop-terms-test.true
 
 pub component-own-requires : goal.component-own-requires
-component-own-requires c = let s = c.requires in
+component-own-requires c =
+    let s = c.requires in
     there s.0 _ _ s.1.from (omega (arith, process_few s.0 _ s.1.from, c.process_at-p.ensures))
 
 pub loop-terms-init : goal.loop-terms-init
 loop-terms-init c = omega arith
 
 pub has_learnt-requires : goal.has_learnt-requires
-has_learnt-requires c = let s = c.requires in
+has_learnt-requires c =
+    let s = c.requires in
     there s.0 _ _ (inside (goal.at.has_learnt-requires c).At-loop-terms) (omega (arith, process_few s.0 _ s.1.from, c.process_at-p.ensures))
 
 pub overflow_add-c : goal.overflow_add-c
-overflow_add-c c = let s = c.requires in
+overflow_add-c c =
+    let s = c.requires in
     let i = s.1.from in
     omega (arith, (there s.0 _ _ (inside (goal.at.overflow_add-c c).At-loop-terms) (process_few s.0 _ i)).1)
 
@@ -55,5 +59,6 @@ pub loop-terms-preserved : goal.loop-terms-preserved
 loop-terms-preserved c = onward (goal.at.loop-terms-preserved c).In-loop-terms
 
 pub returns : goal.returns
-returns c = let s = c.requires in
+returns c =
+    let s = c.requires in
     scan_found s.0 s.1 s.2 c.process_at-p.ensures c.loop-terms.invariant (tested (goal.at.returns c).After-has_learnt) c.loop-terms-test.false
