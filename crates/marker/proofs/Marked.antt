@@ -7,7 +7,7 @@ use lib.ListN.{length, replicate, length-replicate}
 use Rattle.paper.specs.Buffers.{Work, laid, ample}
 use Rattle.paper.specs.Machine.{Clocked, accepted_of}
 use Rattle.paper.specs.Marking.{line_count, mark, marks, total, Marked, marking_checks, marking}
-use Rattle.paper.specs.Refusals.{refusal_of, Outcome, done}
+use Rattle.paper.specs.Refusals.{Outcome, done}
 use Rattle.paper.specs.Sheet.{processes_in, terms_in, list_in}
 use Rattle.paper.proofs.Also.{call_done}
 use Rattle.paper.proofs.Laws.Masks.{length_upto}

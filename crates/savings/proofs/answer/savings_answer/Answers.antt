@@ -1,0 +1,14 @@
+-- The line is that of the tally's outcome.
+use Rattle.percentage.proofs.Told.{count_bounds}
+use Rattle.savings.proofs.Lined.{line_of}
+use Rattle.desk.proofs.Printed.{printed_as}
+use Rattle.savings.proofs.answer.savings_answer.Goals as goal
+
+pub counts_text-requires : goal.counts_text-requires
+counts_text-requires c = count_bounds _ _ c.in-Done.ensures
+
+pub returns-in-Refused : goal.returns-in-Refused
+returns-in-Refused c = printed_as (line_of _ _ _ c.in-Refused.ensures) c.refusal_text.ensures
+
+pub returns-in-Done : goal.returns-in-Done
+returns-in-Done c = printed_as (line_of _ _ _ c.in-Done.ensures) c.counts_text.ensures
