@@ -1,25 +1,43 @@
 // `chain FIRST SECOND < SHEET`: the chain from one event of a sheet to another.
 #![tactic(auto)]
 
+ghost use Rattle.std.specs.Prelude.{IfSome, OnOk};
+ghost use Rattle.std.specs.Io.KnownBytes.{Appends};
+ghost use Rattle.chain.specs.Answer.{chain_answer};
+
 mod answer;
 
 use clock::Position;
-use libc::{STDERR_FILENO, STDIN_FILENO, STDOUT_FILENO};
+use desk::Pair;
+use std::io;
+use std::io::{Read, Write};
 
-fn main() {
-    let desk::Pair::Of(first, second) = desk::positions() else {
-        io::write_all(STDERR_FILENO, b"usage: chain FIRST SECOND < SHEET\n");
-        return;
-    };
+// Reads a sheet and prints the chain from one of its events to another.
+fn run<R: Read, W: Write>(
+    first: Position,
+    second: Position,
+    from: &mut R,
+    to: &mut W,
+) -> io::Result<()>
+    ensures { OnOk result (IfSome (R.remaining from.old) (λ sheet.
+        Appends (W.contents to.old) (W.contents to.new) (chain_answer sheet first.0 second.0))) }
+{
     // One byte more than the longest sheet, so that a longer one is refused.
     let mut sheet = [0u8; 40961];
-    let size = io::read_full(STDIN_FILENO, &mut sheet);
+    let size = desk::read_full(from, &mut sheet)?;
     let mut page = [0u8; desk::PAGE];
-    let length = answer::chain_answer(
-        &sheet[0..size],
+    let length = answer::chain_answer(&sheet[..size], first, second, &mut page);
+    desk::print(to, &page, length)
+}
+
+fn main(rt: HostRuntime) -> io::Result<()> {
+    let Pair::Of(first, second) = desk::positions(&rt) else {
+        return eprintln!(rt; "usage: chain FIRST SECOND < SHEET");
+    };
+    run(
         Position(first),
         Position(second),
-        &mut page,
-    );
-    desk::print(STDOUT_FILENO, &page, length);
+        &mut rt.stdin(),
+        &mut rt.stdout(),
+    )
 }

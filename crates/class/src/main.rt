@@ -1,20 +1,34 @@
 // `class PROCESSES < LIST`: what becomes of each offer of an event list.
 #![tactic(auto)]
 
+ghost use Rattle.std.specs.Prelude.{IfSome, OnOk};
+ghost use Rattle.std.specs.Io.KnownBytes.{Appends};
+ghost use Rattle.clock.specs.Said.{stated};
+ghost use Rattle.class.specs.Answer.{class_answer};
+
 mod answer;
 
 use clock::Terms;
-use libc::{STDERR_FILENO, STDIN_FILENO, STDOUT_FILENO};
+use number::Number;
+use std::io;
+use std::io::{Read, Write};
 
-fn main() {
-    let number::Number::Is(n) = desk::argument(1) else {
-        io::write_all(STDERR_FILENO, b"usage: class PROCESSES < LIST\n");
-        return;
-    };
+// Reads an event list and prints its answer.
+fn run<R: Read, W: Write>(terms: Terms, from: &mut R, to: &mut W) -> io::Result<()>
+    ensures { OnOk result (IfSome (R.remaining from.old) (λ list.
+        Appends (W.contents to.old) (W.contents to.new) (class_answer (stated terms) list))) }
+{
     // One byte more than the longest list, so that a longer one is refused.
     let mut list = [0u8; 4097];
-    let size = io::read_full(STDIN_FILENO, &mut list);
+    let size = desk::read_full(from, &mut list)?;
     let mut page = [0u8; desk::PAGE];
-    let length = answer::class_answer(Terms::plain(n), &list[0..size], &mut page);
-    desk::print(STDOUT_FILENO, &page, length);
+    let length = answer::class_answer(terms, &list[..size], &mut page);
+    desk::print(to, &page, length)
+}
+
+fn main(rt: HostRuntime) -> io::Result<()> {
+    let Number::Is(n) = desk::argument(&rt, 1) else {
+        return eprintln!(rt; "usage: class PROCESSES < LIST");
+    };
+    run(Terms::plain(n), &mut rt.stdin(), &mut rt.stdout())
 }

@@ -1,28 +1,45 @@
 // `listing [lamport] < SHEET`: the events of a sheet with their clocks and masks, and with their Lamport numbers where the word asks for them.
 #![tactic(auto)]
 
+ghost use Rattle.std.specs.Prelude.{IfSome, OnOk};
+ghost use Rattle.std.specs.Io.KnownBytes.{Appends};
+ghost use Rattle.listing.specs.Answer.{listing_answer, listing_lamport_answer};
+
 mod answer;
 
 use desk::Wanted;
-use libc::{STDERR_FILENO, STDIN_FILENO, STDOUT_FILENO};
+use std::io;
+use std::io::{Read, Write};
 
-fn main() {
+// Reads a sheet and prints its listing.
+fn run<R: Read, W: Write>(from: &mut R, to: &mut W) -> io::Result<()>
+    ensures { OnOk result (IfSome (R.remaining from.old) (λ sheet.
+        Appends (W.contents to.old) (W.contents to.new) (listing_answer sheet))) }
+{
     // One byte more than the longest sheet, so that a longer one is refused.
     let mut sheet = [0u8; 40961];
+    let size = desk::read_full(from, &mut sheet)?;
     let mut page = [0u8; desk::PAGE];
-    match desk::listing_wanted() {
-        Wanted::Plain => {
-            let size = io::read_full(STDIN_FILENO, &mut sheet);
-            let length = answer::listing_answer(&sheet[0..size], &mut page);
-            desk::print(STDOUT_FILENO, &page, length);
-        }
-        Wanted::Lamport => {
-            let size = io::read_full(STDIN_FILENO, &mut sheet);
-            let length = answer::listing_lamport_answer(&sheet[0..size], &mut page);
-            desk::print(STDOUT_FILENO, &page, length);
-        }
-        Wanted::Unknown => {
-            io::write_all(STDERR_FILENO, b"usage: listing [lamport] < SHEET\n");
-        }
+    let length = answer::listing_answer(&sheet[..size], &mut page);
+    desk::print(to, &page, length)
+}
+
+// The same with Lamport numbers.
+fn run_lamport<R: Read, W: Write>(from: &mut R, to: &mut W) -> io::Result<()>
+    ensures { OnOk result (IfSome (R.remaining from.old) (λ sheet.
+        Appends (W.contents to.old) (W.contents to.new) (listing_lamport_answer sheet))) }
+{
+    let mut sheet = [0u8; 40961];
+    let size = desk::read_full(from, &mut sheet)?;
+    let mut page = [0u8; desk::PAGE];
+    let length = answer::listing_lamport_answer(&sheet[..size], &mut page);
+    desk::print(to, &page, length)
+}
+
+fn main(rt: HostRuntime) -> io::Result<()> {
+    match desk::listing_wanted(&rt) {
+        Wanted::Plain => run(&mut rt.stdin(), &mut rt.stdout()),
+        Wanted::Lamport => run_lamport(&mut rt.stdin(), &mut rt.stdout()),
+        Wanted::Unknown => eprintln!(rt; "usage: listing [lamport] < SHEET"),
     }
 }

@@ -1,1 +1,2 @@
 mod Marked
+mod Whole

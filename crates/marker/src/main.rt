@@ -1,32 +1,47 @@
 // `marker FILE < SHEET`: the marks of a pupil's list on a sheet, and the total.
 #![tactic(auto)]
 
+ghost use Rattle.std.specs.Prelude.{◌≤◌, IfSome, OnOk, length};
+ghost use Rattle.std.specs.Io.KnownBytes.{Appends};
+ghost use Rattle.marker.specs.Answer.{marker_answer};
+
 mod answer;
 
-use libc::{STDERR_FILENO, STDIN_FILENO, STDOUT_FILENO};
+use std::env::Env;
+use std::fs::Files;
+use std::io::{Read, Write};
+use std::{fs, io, str};
 
-// The file that the first argument names, opened, or -1.
-fn opened() -> i32 {
-    let mut name = io::buffer();
-    let n = os::arg(1, &mut name);
-    os::open_read(&name[..n])
+// Puts the file that the first argument names into a buffer, and returns how many bytes of it; none where it can't be read.
+fn read_file<R: Env + Files>(rt: &R, buf: &mut [u8]) -> Option<usize>
+    ensures { IfSome result (λ n. n ≤ length buf.new) }
+{
+    // No path is longer.
+    let mut name = [0u8; 4095];
+    let n = rt.arg(1, &mut name).ok()?;
+    let path = str::from_utf8(&name[..n]).ok()?;
+    let mut file = fs::open(rt, path).ok()?;
+    desk::read_full(&mut file, buf).ok()
 }
 
-fn main() {
-    let file = opened();
-    // Even a read of no bytes fails where a file is not open or can't be read.
-    let mut none = [0u8; 0];
-    if libc::read(file, &mut none) < 0 {
-        io::write_all(STDERR_FILENO, b"usage: marker FILE < SHEET\n");
-        return;
-    }
-    // One byte more than 200 lines, and one more than the longest sheet, so that longer ones are refused.
-    let mut list = [0u8; 1201];
-    let count = io::read_full(file, &mut list);
-    libc::close(file);
+// Reads a sheet and prints the marks of a pupil's list on it.
+fn run<R: Read, W: Write>(list: &[u8], from: &mut R, to: &mut W) -> io::Result<()>
+    ensures { OnOk result (IfSome (R.remaining from.old) (λ sheet.
+        Appends (W.contents to.old) (W.contents to.new) (marker_answer sheet list.now))) }
+{
+    // One byte more than the longest sheet, so that a longer one is refused.
     let mut sheet = [0u8; 40961];
-    let size = io::read_full(STDIN_FILENO, &mut sheet);
+    let size = desk::read_full(from, &mut sheet)?;
     let mut page = [0u8; desk::PAGE];
-    let length = answer::marker_answer(&sheet[0..size], &list[0..count], &mut page);
-    desk::print(STDOUT_FILENO, &page, length);
+    let length = answer::marker_answer(&sheet[..size], list, &mut page);
+    desk::print(to, &page, length)
+}
+
+fn main(rt: HostRuntime) -> io::Result<()> {
+    // One byte more than 200 lines, so that a longer list is refused.
+    let mut list = [0u8; 1201];
+    let Some(count) = read_file(&rt, &mut list) else {
+        return eprintln!(rt; "usage: marker FILE < SHEET");
+    };
+    run(&list[..count], &mut rt.stdin(), &mut rt.stdout())
 }

@@ -1,1 +1,2 @@
 mod Lined
+mod Whole

@@ -1,15 +1,27 @@
 // `savings < SHEET`: what the short stamps of a sheet saved, in percent, or that it has no messages.
 #![tactic(auto)]
 
+ghost use Rattle.std.specs.Prelude.{IfSome, OnOk};
+ghost use Rattle.std.specs.Io.KnownBytes.{Appends};
+ghost use Rattle.savings.specs.Answer.{savings_answer};
+
 mod answer;
 
-use libc::{STDIN_FILENO, STDOUT_FILENO};
+use std::io;
+use std::io::{Read, Write};
 
-fn main() {
+// Reads a sheet and prints what is said of it.
+fn run<R: Read, W: Write>(from: &mut R, to: &mut W) -> io::Result<()>
+    ensures { OnOk result (IfSome (R.remaining from.old) (λ sheet. Appends (W.contents to.old) (W.contents to.new) (savings_answer sheet))) }
+{
     // One byte more than the longest sheet, so that a longer one is refused.
     let mut sheet = [0u8; 40961];
-    let size = io::read_full(STDIN_FILENO, &mut sheet);
+    let size = desk::read_full(from, &mut sheet)?;
     let mut page = [0u8; desk::PAGE];
-    let length = answer::savings_answer(&sheet[0..size], &mut page);
-    desk::print(STDOUT_FILENO, &page, length);
+    let length = answer::savings_answer(&sheet[..size], &mut page);
+    desk::print(to, &page, length)
+}
+
+fn main(rt: HostRuntime) -> io::Result<()> {
+    run(&mut rt.stdin(), &mut rt.stdout())
 }

@@ -1,2 +1,4 @@
 mod SheetOut
 pub mod OnePage
+mod Whole
+mod Streamed

@@ -1,23 +1,47 @@
 // `write PROCESSES < LIST`: the sheet of an event list; a refusal goes to standard error.
 #![tactic(auto)]
 
+ghost use Rattle.std.specs.Prelude.{IfSome, OnOk};
+ghost use Rattle.clock.specs.Said.{stated};
+ghost use Rattle.write.specs.Answer.{write_answer};
+ghost use Rattle.write.specs.Streams.{Prints};
+
 mod answer;
 
 use answer::Written;
 use clock::Terms;
-use libc::{STDERR_FILENO, STDIN_FILENO, STDOUT_FILENO};
+use number::Number;
+use std::io;
+use std::io::{Read, Write};
 
-fn main() {
-    let number::Number::Is(n) = desk::argument(1) else {
-        io::write_all(STDERR_FILENO, b"usage: write PROCESSES < LIST\n");
-        return;
-    };
+// Reads an event list and prints its sheet, or on `err` what refuses it.
+fn run<R: Read, W: Write, E: Write>(
+    terms: Terms,
+    from: &mut R,
+    out: &mut W,
+    err: &mut E,
+) -> io::Result<()>
+    ensures { OnOk result (IfSome (R.remaining from.old) (λ list. Prints (write_answer (stated terms) list)
+        (W.contents out.old) (W.contents out.new) (E.contents err.old) (E.contents err.new))) }
+{
     // One byte more than the longest list, so that a longer one is refused.
     let mut list = [0u8; 4097];
-    let size = io::read_full(STDIN_FILENO, &mut list);
+    let size = desk::read_full(from, &mut list)?;
     let mut page = [0u8; desk::PAGE];
-    match answer::write_answer(Terms::plain(n), &list[0..size], &mut page) {
-        Written::Sheet(length) => desk::print(STDOUT_FILENO, &page, length),
-        Written::Line(length) => desk::print(STDERR_FILENO, &page, length),
+    match answer::write_answer(terms, &list[..size], &mut page) {
+        Written::Sheet(length) => desk::print(out, &page, length),
+        Written::Line(length) => desk::print(err, &page, length),
     }
+}
+
+fn main(rt: HostRuntime) -> io::Result<()> {
+    let Number::Is(n) = desk::argument(&rt, 1) else {
+        return eprintln!(rt; "usage: write PROCESSES < LIST");
+    };
+    run(
+        Terms::plain(n),
+        &mut rt.stdin(),
+        &mut rt.stdout(),
+        &mut rt.stderr(),
+    )
 }
