@@ -2,6 +2,7 @@
 # Every file that a table row of docs/PAPER.md, docs/PROMISES.md and docs/DECISIONS.md names exists, and every name that it gives behind a file is declared in it.
 # In a row, a word in backticks with a slash or an ending is a file; the words in backticks behind it are its names.
 # And the other way round: PAPER.md names every file of the paper's definitions and theorems and every claim, PROMISES.md every public function.
+# Of the other pages, that every file exists that they name in backticks by a path.
 set -u
 cd "$(dirname "$0")/.." || exit 2
 
@@ -16,7 +17,7 @@ declared() { # FILE: the names it declares, a line each
             else if ($(i + 1) ~ /^[{]/) print $i
         }' "$1"
         ;;
-    *.rt) sed -n 's/^ *\(pub\)\{0,1\}\((crate)\)\{0,1\} *\(extern "C" \)\{0,1\}\(fn\|struct\|enum\|const\|type\) \([A-Za-z0-9_]*\).*/\5/p' "$1" ;;
+    *.rt) sed -n 's/^ *\(pub\)\{0,1\}\((crate)\)\{0,1\} *\(const \|unsafe \)*\(extern "C" \)\{0,1\}\(fn\|struct\|enum\|trait\|const\|type\) \([A-Za-z0-9_]*\).*/\6/p' "$1" ;;
     *) grep -o '[A-Za-z0-9_-]*' "$1" ;;
     esac
 }
@@ -58,8 +59,16 @@ while IFS= read -r line; do
     done < <(printf '%s\n' "$line" | grep -o '`[^`]*`' | tr -d '`')
 done < <(grep -H '^|' docs/PAPER.md docs/PROMISES.md docs/DECISIONS.md 2>/dev/null)
 
+while IFS=: read -r page word; do
+    word=${word//\`/}
+    seen=$((seen + 1))
+    find_file "$word" >/dev/null && continue
+    echo "$page names the file $word, which does not exist"
+    bad=1
+done < <(grep -oHE '`[^` ]+/[^` ]+\.(antt|rt|rs|sh|c|h|md|edit)`' README.md docs/READING.md docs/ASSUMED.md docs/BENCHMARKS.md docs/FORMAT.md docs/changes/*.md)
+
 # A page without names would pass by saying nothing.
-[ "$seen" -ge 100 ] || { echo "only $seen names found in docs/"; bad=1; }
+[ "$seen" -ge 500 ] || { echo "only $seen names found in docs/"; bad=1; }
 
 missing() { # PAGE FILE [NAME]
     grep -qxF -- "$*" "$named" && return
@@ -80,7 +89,7 @@ done
 
 # Public functions. A crate's program, `main`, is no function that others call.
 for file in crates/*/src/*.rt; do
-    for name in $(sed -n 's/^ *pub *\(extern "C" \)\{0,1\}fn \([A-Za-z0-9_]*\).*/\2/p' "$file"); do
+    for name in $(sed -n 's/^ *pub *\(const \|unsafe \)*\(extern "C" \)\{0,1\}fn \([A-Za-z0-9_]*\).*/\3/p' "$file"); do
         [ "$name" = main ] || missing docs/PROMISES.md "$file" "$name"
     done
 done

@@ -2,7 +2,7 @@
 # The library against the second program: the static library is built, then the Rust workspace runs its tests against it. Its code is formatted and lint-free.
 set -eu
 cd "$(dirname "$0")/.."
-rt staticlib oboefinch >/dev/null
+tools/build oboefinch >/dev/null
 cd rust
 cargo test --release --offline --quiet
 cargo fmt --check

@@ -1,9 +1,9 @@
-//! Links the static library from the folder in OBOEFINCH_LIB, or from the repository's own build folder.
+//! Links the static library from the folder in OBOEFINCH_LIB, or from where `tools/build oboefinch` leaves it.
 
 use std::path::{Path, PathBuf};
 
 const FOLDER_VARIABLE: &str = "OBOEFINCH_LIB";
-const FOLDER_BESIDE: &str = "../../target/staticlib";
+const FOLDER_BESIDE: &str = "../../crates/oboefinch/out";
 const ARCHIVE: &str = "liboboefinch.a";
 
 fn main() {
@@ -21,6 +21,6 @@ fn library_folder() -> PathBuf {
     };
     named.canonicalize().unwrap_or_else(|error| {
         let folder = named.display();
-        panic!("no folder {folder} with {ARCHIVE} ({error}): build it or set {FOLDER_VARIABLE}")
+        panic!("no folder {folder} with {ARCHIVE} ({error}): build it with tools/build oboefinch, or set {FOLDER_VARIABLE}")
     })
 }

@@ -2,7 +2,7 @@
 //! in how a send's mask is made and how a receive walks one.
 //!
 //! Used numbers are a bit set, queues are threaded through the accepted events, and stamps are cut
-//! from the running record of source document 000 with its last update and last sent.
+//! from the running record of Wang, Mayo, Gao and Slusser, with its last update and last sent.
 
 use std::marker::PhantomData;
 

@@ -38,7 +38,7 @@ impl Row {
 
 pub struct Table {
     title: &'static str,
-    columns: &'static [&'static str],
+    columns: Vec<&'static str>,
     pub rows: Vec<Row>,
 }
 
@@ -56,40 +56,43 @@ impl Table {
     }
 }
 
-const SIDES: [&str; 5] = ["before", "after", "looks at all 32", "tuned", "second"];
 const FORMS: [&str; 2] = ["from set bit to set bit", "looks at all 32"];
 
-pub fn tables(before: &str) -> Vec<Table> {
-    let before = Box::leak(Box::new(Opened::at(before)));
-    let sides = [
-        Side::Before(before),
-        Side::Library,
-        Side::LooksAtAll,
-        Side::Wide,
-        Side::Second,
+/// `before` is the path of an earlier build of the library, where there is one to measure.
+pub fn tables(before: Option<&str>) -> Vec<Table> {
+    let mut named = vec![
+        ("after", Side::Library),
+        ("looks at all 32", Side::LooksAtAll),
+        ("tuned", Side::Wide),
+        ("second", Side::Second),
     ];
-    let rows_of_receives = CARRIED.map(|carried| receives_row(sides, Receives::of(carried)));
+    if let Some(path) = before {
+        let opened = Box::leak(Box::new(Opened::at(path)));
+        named.insert(0, ("before", Side::Before(opened)));
+    }
+    let (names, sides): (Vec<&str>, Vec<Side>) = named.into_iter().unzip();
+    let rows_of_receives = CARRIED.map(|carried| receives_row(&sides, Receives::of(carried)));
     vec![
         Table {
             title: "The merge itself, where every carried component grows:",
-            columns: &FORMS,
+            columns: FORMS.to_vec(),
             rows: CARRIED.map(merge_row).into(),
         },
         Table {
             title: "A receive at 32 processes, in class mode (a list with these receives less the list without them):",
-            columns: &SIDES,
+            columns: names.clone(),
             rows: rows_of_receives.into(),
         },
         Table {
             title: "Reading a whole sheet, for each event:",
-            columns: &SIDES,
-            rows: tasks::sheets().into_iter().map(|row| sheet_row(sides, row)).collect(),
+            columns: names,
+            rows: tasks::sheets().into_iter().map(|row| sheet_row(&sides, row)).collect(),
         },
     ]
 }
 
-fn receives_row(sides: [Side; 5], receives: Receives) -> Row {
-    let count = receives.count as f64;
+fn receives_row(sides: &[Side], receives: Receives) -> Row {
+    let (count, many) = (receives.count as f64, sides.len());
     let name = format!("{} carried", receives.carried);
     let events = receives.with.input.len() / RECORD_SIZE;
     let tasks = [receives.with, receives.without];
@@ -100,7 +103,7 @@ fn receives_row(sides: [Side; 5], receives: Receives) -> Row {
         name,
         runs: runs.collect(),
         figures: Box::new(move |taken| {
-            let (with, without) = taken.split_at(sides.len());
+            let (with, without) = taken.split_at(many);
             let pairs = with.iter().zip(without);
             pairs
                 .map(|(with, without)| (with - without) / count)
@@ -109,7 +112,7 @@ fn receives_row(sides: [Side; 5], receives: Receives) -> Row {
     }
 }
 
-fn sheet_row(sides: [Side; 5], row: tasks::Row) -> Row {
+fn sheet_row(sides: &[Side], row: tasks::Row) -> Row {
     let events = row.events as f64;
     let name = format!(
         "{}, {} processes, {} events",
@@ -123,12 +126,13 @@ fn sheet_row(sides: [Side; 5], row: tasks::Row) -> Row {
 }
 
 /// Each side on the same task, once all of them gave the same.
-fn call_runs(sides: [Side; 5], task: Task, events: usize) -> Vec<Run> {
+fn call_runs(sides: &[Side], task: Task, events: usize) -> Vec<Run> {
     let lent = Buffers::exactly_for(task.processes, events);
-    let answered = sides.map(|side| {
+    let answered = sides.iter().map(|side| {
         let mut buffers = lent.clone();
-        (call(side, &task, &mut buffers), buffers)
+        (call(*side, &task, &mut buffers), buffers)
     });
+    let answered: Vec<(u64, Buffers)> = answered.collect();
     assert!(
         answered.iter().all(|each| *each == answered[0]),
         "two sides differ"

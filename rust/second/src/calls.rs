@@ -183,7 +183,7 @@ pub fn compare(
 }
 
 /// Checks 4, 8, 9, events in order, then 20, 22, 21; gives the chain's length. "21 for the chain now means fewer than n minus 1 slots; with one process no
-/// slot is needed" (02, request 6).
+/// slot is needed" (request 6).
 pub fn chain(
     n: usize,
     list: &[u8],

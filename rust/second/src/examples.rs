@@ -35,7 +35,7 @@ events 8 processes 3 entries 6
 7 R 0 1 4 0 3 4 1
 ";
 
-/// LC1 and LC2 of source document 004 along list A.
+/// LC1 and LC2 (Dragoni, "Logical Time") along list A.
 pub const LAMPORTS_OF_A: [u16; 8] = [1, 1, 2, 3, 4, 5, 4, 6];
 
 pub const PROCESSES_OF_B: usize = 2;

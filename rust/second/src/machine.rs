@@ -10,14 +10,14 @@ use crate::Check;
 struct Message {
     number: u16,
     clock: Clock,
-    /// "it piggybacks on m the value t" (LC2, source document 004).
+    /// "it piggybacks on m the value t" (LC2, Dragoni, "Logical Time").
     t: u16,
 }
 
 pub struct Machine {
     processes: usize,
     clocks: Vec<Clock>,
-    /// The L of each process (LC1 and LC2, source document 004).
+    /// The L of each process (LC1 and LC2, Dragoni, "Logical Time").
     lamports: Vec<u16>,
     used_numbers: BTreeSet<u16>,
     /// By sender, then by addressee.

@@ -1,6 +1,6 @@
-//! What a receive costs, and a whole sheet: the library before fewer visits in the merge, the library now, a version whose merge looks
-//! at all thirty-two components, and the second program, on the same inputs in one run. `receives BEFORE` times them, where BEFORE is
-//! the earlier library as a shared object; `receives BEFORE instructions` counts their instructions by callgrind.
+//! What a receive costs, and a whole sheet: the library, a version whose merge looks at all thirty-two components, and the second
+//! program, on the same inputs in one run. `receives times` times them, `receives instructions` counts their instructions by callgrind.
+//! With a further word BEFORE, an earlier build of the library is measured too: a shared object of that path.
 
 use std::process::{Command, Stdio};
 
@@ -11,17 +11,20 @@ fn main() {
     let arguments: Vec<String> = std::env::args().skip(1).collect();
     let words: Vec<&str> = arguments.iter().map(String::as_str).collect();
     match words[..] {
-        [before] => print_times(before),
-        [before, "instructions"] => print_instructions(before),
-        [before, "run", number] => run_once(before, number.parse().expect("a run's number")),
+        ["times"] => print_times(None),
+        ["times", before] => print_times(Some(before)),
+        ["instructions"] => print_instructions(None),
+        ["instructions", before] => print_instructions(Some(before)),
+        ["run", number] => run_once(None, number.parse().expect("a run's number")),
+        ["run", number, before] => run_once(Some(before), number.parse().expect("a run's number")),
         _ => {
-            eprintln!("usage: receives BEFORE [instructions]");
+            eprintln!("usage: receives times|instructions [BEFORE]");
             std::process::exit(2);
         }
     }
 }
 
-fn print_times(before: &str) {
+fn print_times(before: Option<&str>) {
     println!("Nanoseconds, best of {REPETITIONS} repetitions.");
     for mut table in tables(before) {
         table.print_head();
@@ -32,7 +35,7 @@ fn print_times(before: &str) {
     }
 }
 
-fn print_instructions(before: &str) {
+fn print_instructions(before: Option<&str>) {
     println!("Instructions by valgrind --tool=callgrind.");
     let mut number = 0;
     for table in tables(before) {
@@ -47,12 +50,13 @@ fn print_instructions(before: &str) {
 }
 
 /// A run by itself in a process of its own, where only `counted` is counted.
-fn instructions(before: &str, number: usize) -> f64 {
+fn instructions(before: Option<&str>, number: usize) -> f64 {
     let output = Command::new("valgrind")
         .args(["--tool=callgrind", "--callgrind-out-file=/dev/null"])
         .arg("--toggle-collect=counted")
         .arg(std::env::current_exe().expect("the path of this program"))
-        .args([before, "run", &number.to_string()])
+        .args(["run", &number.to_string()])
+        .args(before)
         .stdout(Stdio::null())
         .output()
         .expect("valgrind starts");
@@ -65,7 +69,7 @@ fn instructions(before: &str, number: usize) -> f64 {
 }
 
 /// Once to warm up, and once to be counted.
-fn run_once(before: &str, number: usize) {
+fn run_once(before: Option<&str>, number: usize) {
     let mut runs = tables(before).into_iter().flat_map(Table::into_runs);
     let mut run = runs.nth(number).expect("a run of that number");
     run();
