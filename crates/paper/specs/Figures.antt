@@ -1,4 +1,4 @@
--- Three sorts of figure (01, "The job"), none of which may stand where another is asked for. Here each is a number, and the name says which is meant; in the
+-- Three sorts of figure (the paper, "The job"), none of which may stand where another is asked for. Here each is a number, and the name says which is meant; in the
 -- code each is a type of its own.
 use Rattle.std.specs.Prelude.{ℕ}
 

@@ -1,4 +1,4 @@
--- What the checks up to 9 ask for, and what then stands in the work buffers of a list (01, "Refusal numbers", last paragraph).
+-- What the checks up to 9 ask for, and what then stands in the work buffers of a list (the paper, "Refusal numbers", last paragraph).
 use Rattle.std.specs.Prelude.{ℕ, ◌*◌, ◌≤◌, List, [], ◌∷◌, ◌≡◌, length, take, drop}
 use Rattle.paper.specs.Buffers.{Work, filled}
 use Rattle.paper.specs.Clock.{most_processes, most_events}

@@ -1,4 +1,4 @@
--- What a list or a sheet is judged by (01, "The sheet"): its version, and how many processes there are.
+-- What a list or a sheet is judged by (the paper, "The sheet"): its version, and how many processes there are.
 use Rattle.std.specs.Prelude.{ℕ, Bool, not, ◌||◌, eqb, ltb}
 use Rattle.paper.specs.Clock.{most_processes}
 

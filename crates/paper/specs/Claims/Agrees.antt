@@ -1,4 +1,4 @@
--- By its process's record a send carries what it carries said over clocks (01, "Clocks and stamps": "The two must be shown to agree"; theorem `agreement`).
+-- By its process's record a send carries what it carries said over clocks (the paper, "Clocks and stamps": "The two must be shown to agree"; theorem `agreement`).
 use Rattle.std.specs.Prelude.{ℕ, ◌≡◌, List}
 use Rattle.paper.specs.Event.{Event, send}
 use Rattle.paper.specs.Machine.{start, event_clock, run, clocked}

@@ -1,4 +1,4 @@
--- Sheets are refused as in reading, and lists as on the strict course, by every call that looks at more (01, "Refusal numbers"; requests 2 and 5 of 02; theorems
+-- Sheets are refused as in reading, and lists as on the strict course, by every call that looks at more (the paper, "Refusal numbers"; requests 2 and 5; theorems
 -- `as_in_reading` and `as_on_the_course`): the same number and position, the same work buffers, and outputs untouched.
 use Rattle.std.specs.Prelude.{ℕ, ◌≡◌, false, List, Float}
 use Rattle.paper.specs.Buffers.{Work}

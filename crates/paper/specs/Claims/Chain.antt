@@ -1,4 +1,4 @@
--- The teaching chain (01, "Before, after, neither") as a relation in the paper's words, and what else is claimed of it (theorems `teaching`, `one_teaching`,
+-- The teaching chain (the paper, "Before, after, neither") as a relation in the paper's words, and what else is claimed of it (theorems `teaching`, `one_teaching`,
 -- `chain_right`, `no_process_twice`).
 use Rattle.std.specs.Prelude.{ℕ, suc, ◌+◌, ◌≤◌, ◌<◌, ◌≡◌, ◌≢◌, ◌⊎◌, List, [], ◌∷◌, ◌++◌, length, get_or}
 use Rattle.paper.specs.Chain.{own_number, learner, sender, walk, chain}

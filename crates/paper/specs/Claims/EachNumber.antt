@@ -102,7 +102,7 @@ abbrev pub answered : List ℕ
 answered =
     0 ∷ 10 ∷ 11 ∷ 12 ∷ 12 ∷ 12 ∷ 12 ∷ 13 ∷ 13 ∷ 13 ∷ 13 ∷ 13 ∷ 13 ∷ 14 ∷ 15 ∷ 15 ∷ 15 ∷ 0 ∷ 16 ∷ 0 ∷ 15 ∷ 0 ∷ 9 ∷ []
 
--- Class mode: 4, 8, 9, behind the version that request 7 puts first; then an answer for each offer.
+-- Class mode: 4, 8, 9, behind the version, which comes first; then an answer for each offer.
 pub record ClassNumbers : Type 0 where
   pub three : class strange (1 ∷ []) none [] ≡ ((refused (of_call 3), none), [])
   pub four : class (plain 0) (1 ∷ []) none [] ≡ ((refused (of_call 4), none), [])

@@ -1,4 +1,4 @@
--- Bytes from 24 on in neither part may hold anything and alter no answer (01, "The sheet"; theorem `elsewhere`).
+-- Bytes from 24 on in neither part may hold anything and alter no answer (the paper, "The sheet"; theorem `elsewhere`).
 use Rattle.std.specs.Prelude.{ℕ, ◌+◌, ◌≤◌, ◌<◌, ◌≡◌, ◌⊎◌, List, Float}
 use Rattle.paper.specs.Buffers.{Work}
 use Rattle.paper.specs.Marking.{marking}

@@ -1,4 +1,4 @@
--- When a refusal number is given, in the words of the table (01, "Refusal numbers"); and which numbers a call gives at all.
+-- When a refusal number is given, in the words of the table (the paper, "Refusal numbers"); and which numbers a call gives at all.
 use Rattle.std.specs.Prelude.{ℕ, ◌+◌, ◌*◌, ◌≤◌, ◌<◌, ◌≡◌, ◌≢◌, true, Float, length, get_or, take, drop}
 use mathlib.Core.List.{List, [], ◌∷◌, ◌++◌, flatten}
 use Rattle.paper.specs.Buffers.{Work}

@@ -1,4 +1,4 @@
--- A clock is thirty_two numbers, of which the first n are used and the rest stay 0 (01, "Clocks and stamps"; theorem `sizes`).
+-- A clock is thirty-two numbers, of which the first n are used and the rest stay 0 (the paper, "Clocks and stamps"; theorem `sizes`).
 use Rattle.std.specs.Prelude.{ℕ, ◌≤◌, ◌≡◌, length}
 use Rattle.paper.specs.Clock.{Clock, most_processes, part}
 

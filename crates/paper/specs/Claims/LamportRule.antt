@@ -1,4 +1,4 @@
--- LC1 and LC2 of source 004 over the positions of a run (02, request 1; theorem `lamport_rule`).
+-- LC1 and LC2 over the positions of a run (request 1; theorem `lamport_rule`).
 use Rattle.std.specs.Prelude.{ℕ, ◌+◌, max, ◌<◌, ◌≡◌, ◌≢◌, List, get_or}
 use Rattle.paper.specs.Event.{receive}
 use Rattle.paper.specs.Lamport.{lamports}

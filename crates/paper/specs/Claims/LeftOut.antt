@@ -1,4 +1,4 @@
--- Leaving a refused offer out changes no other answer, clock or stamp (demand 3; theorems `left_out` and `left_out_list`).
+-- Leaving a refused offer out changes no other answer, clock or stamp (theorems `left_out` and `left_out_list`).
 use Rattle.std.specs.Prelude.{ℕ, suc, ◌*◌, ◌≡◌, List, ◌∷◌, ◌++◌, length, take, drop}
 use Rattle.paper.specs.Event.{Event}
 use Rattle.paper.specs.Lamport.{lamports}

@@ -1,4 +1,4 @@
--- What is claimed of the marks and the total (02, request 2; theorem `total_right`).
+-- What is claimed of the marks and the total (request 2; theorem `total_right`).
 use Rattle.std.specs.Prelude.{ℕ, ◌≤◌, ◌<◌, ◌≡◌, ◌↔◌, List, get_or}
 use Rattle.paper.specs.Machine.{Clocked}
 use Rattle.paper.specs.Marking.{line_count, line_at, Marked, RightLine, NumberOf}

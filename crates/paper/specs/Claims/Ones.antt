@@ -1,4 +1,4 @@
--- A stamp's mask and values fit each other, p telling which components are carried (01, "Clocks and stamps"; theorem `ones`).
+-- A stamp's mask and values fit each other, p telling which components are carried (the paper, "Clocks and stamps"; theorem `ones`).
 use Rattle.std.specs.Prelude.{ℕ, ◌≤◌, ◌<◌, ◌≡◌, Bool, false, length}
 use Rattle.std.specs.Int.Count.{ones as ones_of}
 use Rattle.paper.specs.Clock.{most_processes}

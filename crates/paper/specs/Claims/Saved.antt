@@ -1,4 +1,4 @@
--- What is claimed of the saving (02, request 5; theorems `nearest_right`, `saved_right`, `stored_right`).
+-- What is claimed of the saving (request 5; theorems `nearest_right`, `saved_right`, `stored_right`).
 use Rattle.std.specs.Prelude.{ℕ, ◌+◌, ◌-◌, ◌*◌, ◌^◌, ◌≤◌, ◌<◌, ◌≡◌, ◌↔◌, false, List, T, Float, length, get_or}
 use Rattle.std.specs.Float.{binary64}
 use Rattle.std.specs.Float.Ieee.{low, fits}

@@ -33,7 +33,7 @@ pub record Settled : Type 0 where
   pub itself : (comparing (plain 3) A (lent 24 8) 4 4).0 ≡ done 4
   -- (6) the chain from 1 to 7 is 1, 5
   pub chain_of_A : (chaining (plain 3) A (lent 24 8) 1 7 (9 ∷ 9 ∷ 9 ∷ [])).1 ≡ 1 ∷ 5 ∷ 9 ∷ []
-  -- its room (02, 6): two slots for three processes, one is too few; 22 comes before 21; with one process no slot is needed
+  -- its room (request 6): two slots for three processes, one is too few; 22 comes before 21; with one process no slot is needed
   pub room_of_A : (chaining (plain 3) A (lent 24 8) 1 7 (9 ∷ 9 ∷ [])).1 ≡ 1 ∷ 5 ∷ []
   pub scant_for_A : chaining (plain 3) A (lent 25 9) 1 7 (9 ∷ []) ≡ ((refused (of_call 21), cleared 24 8), 9 ∷ [])
   pub not_before_first : (chaining (plain 3) A (lent 24 8) 7 0 []).0.0 ≡ refused (of_call 22)

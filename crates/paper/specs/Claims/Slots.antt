@@ -1,4 +1,4 @@
--- What every lent slot holds after a call (01, "Refusal numbers", last paragraph; theorem `lent_slots`): its content, 0, or what it held.
+-- What every lent slot holds after a call (the paper, "Refusal numbers", last paragraph; theorem `lent_slots`): its content, 0, or what it held.
 use Rattle.std.specs.Prelude.{ℕ, ◌*◌, ◌≤◌, ◌<◌, ◌≡◌, ◌≢◌, List, [], ◌∷◌, Float, length, get_or}
 use Rattle.paper.specs.Buffers.{Work, clock_slots, mask_slots, value_slots}
 use Rattle.paper.specs.Chain.{chain}

@@ -1,4 +1,4 @@
--- What a verdict says (01, "Before, after, neither"; theorems `verdict_right`, of two accepted events, and `lent_right`, of two lent clocks).
+-- What a verdict says (the paper, "Before, after, neither"; theorems `verdict_right`, of two accepted events, and `lent_right`, of two lent clocks).
 use Rattle.std.specs.Prelude.{ℕ, ◌≡◌, ◌↔◌}
 
 -- 1 the first is below, 2 the second is below, 4 they are equal, 3 none of these; and below and equal may be said in another way.
