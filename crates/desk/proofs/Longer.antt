@@ -19,14 +19,14 @@ abbrev pub refused_list : Terms → ℕ
 refused_list t = first (wrong_version t) 3 (first (wrong_count t.processes) 4 8)
 
 pub list_longer : (t : Terms) (list : List ℕ) (k : ℕ) → 4096 < length list → list_checks t list k ≡ refused_list t
-list_longer t list k long = 
+list_longer t list k long =
     let either : (x : Bool) → (not x || ltb 4096 (length list)) ≡ true = λ x. rw (lt-ltb 4096 (length list) long) (elim x as (λ y. (not y || true) ≡ true) [ true ↦ refl | false ↦ refl ]) in
     ap (λ x. first (wrong_version t) 3 (first (wrong_count t.processes) 4 (first x 8 k))) (either (eqb (length list % 8) 0))
 
 pub refused_list_is : (t : Terms) → eqb (refused_list t) 0 ≡ false
 refused_list_is t =
     elim (wrong_version t) as (λ x. eqb (first x 3 (first (wrong_count t.processes) 4 8)) 0 ≡ false) [
-      true ↦ refl
+      | true ↦ refl
       | false ↦ elim (wrong_count t.processes) as (λ y. eqb (first y 4 8) 0 ≡ false) [ true ↦ refl | false ↦ refl ]
     ]
 
@@ -40,6 +40,6 @@ only_refused f a c r early is = ap (text_of f) (call_refused a c r early is)
 -- What is the same for all that are longer than n is the same for the first n + 1 bytes.
 pub cut_short : {A : Type 0} (f : List ℕ → A) (n : ℕ) (t : A) → ((b : List ℕ) → n < length b → f b ≡ t) → (b : List ℕ) → f (take (suc n) b) ≡ f b
 cut_short f n t same b = elim (cases_lt (suc n) (length b)) [
-    inl long ↦ same (take (suc n) b) (omega (arith, length-take (suc n) b)) ∙ sym (same b (omega arith))
-    | inr fits ↦ ap f (take_all (suc n) b fits)
-  ]
+  | inl long ↦ same (take (suc n) b) (omega (arith, length-take (suc n) b)) ∙ sym (same b (omega arith))
+  | inr fits ↦ ap f (take_all (suc n) b fits)
+]
