@@ -72,7 +72,8 @@ fn is_missing(env: &impl Env, i: usize) -> bool {
     matches!(env.arg(i, &mut []), Err(FillError::NotPresent))
 }
 
-// Reads until the buffer is full or the input ends, and returns how many bytes now stand at the buffer's start.
+// Reads until the buffer is full or the input ends, and returns how many bytes now stand at the buffer's start. A read that fails is an error, and what
+// was read before it is lost.
 pub fn read_full<R: Read>(from: &mut R, buf: &mut [u8]) -> io::Result<usize>
     ensures bound { IfOk result (λ n. n ≤ length buf.new) }
     ensures bytes { IfOk result (λ n. IfSome (R.remaining from.old) (λ all. take n buf.new ≡ take (length buf.new) all)) }
@@ -98,4 +99,113 @@ pub fn print<W: Write>(to: &mut W, page: &[u8; PAGE], length: usize) -> io::Resu
         to.write_all(&page[..length])?;
     }
     Ok(())
+}
+
+#[cfg(test)]
+mod tests {
+    use super::*;
+    use std::io::{Error, ErrorKind};
+    use std::test::Fail;
+
+    // The arguments of a program, its own name first.
+    #[derive(Drop)]
+    struct Given<'a>(&'a [&'a [u8]]);
+
+    impl Env for Given<'_> {
+        fn arg(&self, i: usize, buf: &mut [u8]) -> Result<usize, FillError> {
+            if i >= self.0.len() {
+                return Err(FillError::NotPresent);
+            }
+            let word = self.0[i];
+            if word.len() > buf.len() {
+                return Err(FillError::TooLong);
+            }
+            buf[..word.len()].copy_from_slice(word);
+            Ok(word.len())
+        }
+
+        fn var(&self, _name: &str, _buf: &mut [u8]) -> Result<usize, FillError> {
+            Err(FillError::NotPresent)
+        }
+
+        fn var_at(&self, _i: usize, _buf: &mut [u8]) -> Result<usize, FillError> {
+            Err(FillError::NotPresent)
+        }
+    }
+
+    #[test]
+    fn arguments(rt: HostRuntime) {
+        let given = Given(&[b"compare", b"00012", b"000012", b"", b"1a", b"\xff"]);
+        assert!(rt; matches!(argument(&given, 1), Number::Is(12)));
+        for i in 2..7 {
+            assert!(rt; matches!(argument(&given, i), Number::None), "argument {i}");
+        }
+        assert!(rt; matches!(positions(&given), Pair::Missing));
+        let given = Given(&[b"compare", b"3", b"07", b"more"]);
+        assert!(rt; matches!(positions(&given), Pair::Of(3, 7)));
+    }
+
+    #[test]
+    fn listings(rt: HostRuntime) {
+        assert!(rt; matches!(listing_wanted(&Given(&[b"listing"])), Wanted::Plain));
+        assert!(rt;
+            matches!(
+                listing_wanted(&Given(&[b"listing", b"lamport"])),
+                Wanted::Lamport
+            )
+        );
+        assert!(rt;
+            matches!(
+                listing_wanted(&Given(&[b"listing", b"lamport", b""])),
+                Wanted::Unknown
+            )
+        );
+        assert!(rt;
+            matches!(
+                listing_wanted(&Given(&[b"listing", b"lamports"])),
+                Wanted::Unknown
+            )
+        );
+        assert!(rt; matches!(listing_wanted(&Given(&[b"listing", b""])), Wanted::Unknown));
+    }
+
+    // A reader that gives one byte at a time and then fails.
+    #[derive(Drop)]
+    struct Failing(u8);
+
+    impl Read for Failing {
+        fn read(&mut self, buf: &mut [u8]) -> io::Result<usize> {
+            if self.0 == 0 {
+                return Err(Error::from(ErrorKind::BrokenPipe));
+            }
+            if buf.is_empty() {
+                return Ok(0);
+            }
+            buf[0] = self.0;
+            self.0 -= 1;
+            Ok(1)
+        }
+    }
+
+    #[test]
+    fn reads(rt: HostRuntime) -> Result<(), Fail> {
+        let mut buf = [0u8; 4];
+        assert_eq!(rt; read_full(&mut b"abcdef".as_slice(), &mut buf)?, 4);
+        assert_eq!(rt; &buf, b"abcd");
+        assert_eq!(rt; read_full(&mut b"xy".as_slice(), &mut buf)?, 2);
+        assert_eq!(rt; &buf, b"xycd");
+        assert_eq!(rt; read_full(&mut Failing(9), &mut buf)?, 4);
+        assert_eq!(rt; &buf, &[9, 8, 7, 6]);
+        assert!(rt; read_full(&mut Failing(3), &mut buf).is_err());
+        Ok(())
+    }
+
+    #[test]
+    fn prints(rt: HostRuntime) -> Result<(), Fail> {
+        let mut out = Vec::new(rt.alloc());
+        print(&mut out, &[b'x'; PAGE], 3)?;
+        print(&mut out, &[b'y'; PAGE], PAGE + 1)?;
+        assert_eq!(rt; out.as_slice(), b"xxx".as_slice());
+        Ok(())
+    }
 }

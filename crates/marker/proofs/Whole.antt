@@ -1,5 +1,5 @@
 -- The first 40,961 bytes of a sheet have the answer of the whole sheet.
-use Rattle.std.proofs.Common.{◌≡◌, ℕ, Bool, true, false, List, take, replicate, eqb, ap, refl}
+use Rattle.std.proofs.Common.{◌≡◌, ℕ, true, false, List, take, replicate, eqb, ap, refl}
 use Rattle.paper.specs.Buffers.{ample}
 use Rattle.paper.specs.Listing.{refusal_line}
 use Rattle.paper.specs.Machine.{accepted_of}
@@ -18,4 +18,5 @@ enough lines = cut_short (λ b. marker_answer b lines) 40960 (refusal_line (of_c
     let cs = accepted_of (terms_in b) (list_in b) in
     only_refused (λ m. marker_lines (marks n cs lines) m.total) (record { total = total n cs lines; lines = line_count lines })
     (marking_checks b lines ample (replicate 200 0)) (first (wrong_lines lines) 30 1)
-    (ap (first (wrong_lines lines) 30) (sheet_longer b _ long)) (elim (wrong_lines lines) as (λ w. eqb (first w 30 1) 0 ≡ false) [ true ↦ refl | false ↦ refl ]))
+    (ap (first (wrong_lines lines) 30) (sheet_longer b _ long))
+    (elim (wrong_lines lines) as (λ w. eqb (first w 30 1) 0 ≡ false) [ true ↦ refl | false ↦ refl ]))
