@@ -40,10 +40,8 @@ pub fn put_all(out: &mut [u8], at: usize, bytes: &[u8]) -> usize
     ensures { Appended out.old at bytes.now result out.new }
 {
     let count = within(out.len(), at, bytes.len());
-    let mut i: usize = 0;
-    while i < count {
-        out[at + i] = bytes[i];
-        i += 1;
+    if count > 0 {
+        out[at..at + count].copy_from_slice(&bytes[..count]);
     }
     past(at, bytes.len())
 }

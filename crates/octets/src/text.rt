@@ -4,13 +4,13 @@ ghost use Rattle.paper.specs.Listing.{decimal, word, words};
 ghost use Rattle.octets.specs.Appended.{Appended};
 
 use super::store::{put, put_all};
-use super::width::wide16;
+use super::width::Narrow;
 
 // The last digit of a number.
 pub fn digit(x: usize) -> u8
     ensures { result ≡ 48 + x % 10 }
 {
-    48 + (x % 10) as u8
+    b'0' + (x % 10) as u8
 }
 
 // A number's decimal digits, of which there are at most 20.
@@ -37,10 +37,8 @@ pub fn put_words(out: &mut [u8], at: usize, xs: &[u16]) -> usize
     ensures { Appended out.old at (words xs.now) result out.new × (result ≤ at + 21 * length xs.now) }
 {
     let mut k = at;
-    let mut i: usize = 0;
-    while i < xs.len() {
-        k = put_word(out, k, wide16(xs[i]));
-        i += 1;
+    for x in xs {
+        k = put_word(out, k, x.wide());
     }
     k
 }
