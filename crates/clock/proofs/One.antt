@@ -1,9 +1,8 @@
 -- The maps to the paper's words are one to one: equal numbers and values mean equal answers, so that a promise in those words allows one answer.
 use native.Mathlib.Omega.{arith}
 use mathlib.Core.Path.{◌≡◌, refl, sym, ap}
-use Rattle.clock.specs.Said.{stated, refusal, number, ordered}
-use Rattle.clock.specs.declared.Ordered.{Ordered}
-use Rattle.clock.specs.declared.Ordered.TheVariants as code
+use Rattle.std.specs.Prelude.{Result, Ok, Err}
+use Rattle.clock.specs.Said.{stated, refusal, number, told, ordered}
 use Rattle.clock.specs.declared.Refusal as declared
 use Rattle.clock.specs.declared.Terms as declared_terms
 use Rattle.clock.specs.declared.Verdict.{Verdict}
@@ -38,8 +37,12 @@ one_number Same After h = absurd (omega arith)
 one_number Same Neither h = absurd (omega arith)
 one_number Same Same h = refl
 
-pub one_ordered : (r s : Ordered) → ordered r ≡ ordered s → r ≡ s
-one_ordered (code.Refused r) (code.Refused s) h = ap code.Refused (one_refusal r s (same_refused h))
-one_ordered (code.Done v) (code.Done w) h = ap code.Done (one_number v w (same_done h))
-one_ordered (code.Refused r) (code.Done w) h = absurd (not_both h)
-one_ordered (code.Done v) (code.Refused s) h = absurd (not_both (sym h))
+pub one_told :
+    {A B : Type 0} {f : A → B} → ((a b : A) → f a ≡ f b → a ≡ b) → (r s : Result A declared.Refusal) → told f r ≡ told f s → r ≡ s
+one_told one (Err r) (Err s) h = ap Err (one_refusal r s (same_refused h))
+one_told one (Ok a) (Ok b) h = ap Ok (one a b (same_done h))
+one_told one (Err r) (Ok b) h = absurd (not_both h)
+one_told one (Ok a) (Err s) h = absurd (not_both (sym h))
+
+pub one_ordered : (r s : Result Verdict declared.Refusal) → ordered r ≡ ordered s → r ≡ s
+one_ordered r s h = one_told one_number r s h

@@ -1,3 +1,4 @@
 pub mod Event
 pub mod Said
 pub mod Scalar
+pub mod Check

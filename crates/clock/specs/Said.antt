@@ -1,7 +1,5 @@
 -- The paper's numbers and outcomes for each case of what is answered here.
-use Rattle.std.specs.Prelude.{ℕ}
-use Rattle.clock.specs.declared.Ordered.{Ordered}
-use Rattle.clock.specs.declared.Ordered.TheVariants as code
+use Rattle.std.specs.Prelude.{ℕ, Result, Ok, Err}
 use Rattle.clock.specs.declared.Refusal as declared
 use Rattle.clock.specs.declared.Terms as declared_terms
 use Rattle.clock.specs.declared.Verdict.{Verdict}
@@ -26,6 +24,10 @@ number After = 2
 number Neither = 3
 number Same = 4
 
-abbrev pub ordered : Ordered → Outcome ℕ
-ordered (code.Refused r) = refused (refusal r)
-ordered (code.Done v) = done (number v)
+-- What a call answers: its refusal, or its good case as the paper has it.
+abbrev pub told : {A B : Type 0} → (A → B) → Result A declared.Refusal → Outcome B
+told f (Ok a) = done (f a)
+told f (Err r) = refused (refusal r)
+
+abbrev pub ordered : Result Verdict declared.Refusal → Outcome ℕ
+ordered r = told number r

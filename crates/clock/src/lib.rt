@@ -1,6 +1,7 @@
-// Clocks by value, the three sorts of figure, and the verdict on two lent clocks.
+// Clocks by value, the three sorts of figure, refusals, and the verdict on two lent clocks.
 #![tactic(auto)]
 
+mod check;
 pub mod event;
 
 ghost use Rattle.std.specs.Prelude.{◌≡◌, cond, ◌&&◌, not, ◌≤◌, length};
@@ -9,23 +10,25 @@ ghost use Rattle.paper.specs.Order.{within};
 ghost use Rattle.paper.specs.Questions.{ordering};
 ghost use Rattle.paper.specs.Refusals.{of_call};
 ghost use Rattle.clock.specs.Scalar.{one_up};
-ghost use Rattle.paper.specs.Terms.{plain};
+ghost use Rattle.paper.specs.Terms.{plain, wrong_count};
 ghost use Rattle.clock.specs.Said.{number, ordered, refusal, of_event, stated};
 
+pub use check::Check;
+
 // The number of a process, from 0.
-#[derive(Clone, Copy)]
+#[derive(Clone, Copy, Debug, PartialEq, Eq, PartialOrd, Ord)]
 pub struct Process(pub u8);
 
 // The position of an event in its list, from 0.
-#[derive(Clone, Copy)]
+#[derive(Clone, Copy, Debug, PartialEq, Eq, PartialOrd, Ord)]
 pub struct Position(pub usize);
 
 // The number of a message, from 1.
-#[derive(Clone, Copy)]
+#[derive(Clone, Copy, Debug, PartialEq, Eq, PartialOrd, Ord)]
 pub struct Message(pub u16);
 
 // A refusal number, and the position of the refused event; 0 where no event is refused.
-#[derive(Clone, Copy)]
+#[derive(Clone, Copy, Debug, PartialEq, Eq)]
 pub struct Refusal {
     pub number: u8,
     pub position: Position,
@@ -37,7 +40,7 @@ impl Refusal {
         ensures { refusal result ≡ of_call number }
     {
         Refusal {
-            number: number,
+            number,
             position: Position(0),
         }
     }
@@ -46,15 +49,12 @@ impl Refusal {
     pub fn of_event(number: u8, position: Position) -> Refusal
         ensures { refusal result ≡ of_event number position.0 }
     {
-        Refusal {
-            number: number,
-            position: position,
-        }
+        Refusal { number, position }
     }
 }
 
 // What a list or a sheet is judged by: the version, how many processes there are, and how many of them are present at the start, which no rule looks at.
-#[derive(Clone, Copy)]
+#[derive(Clone, Copy, Debug, PartialEq, Eq)]
 pub struct Terms {
     pub version: usize,
     pub processes: usize,
@@ -68,7 +68,7 @@ impl Terms {
     {
         Terms {
             version: 1,
-            processes: processes,
+            processes,
             present: 0,
         }
     }
@@ -95,7 +95,7 @@ impl Clock {
     }
 }
 
-#[derive(Clone, Copy)]
+#[derive(Clone, Copy, Debug, PartialEq, Eq)]
 pub enum Verdict {
     Before,
     After,
@@ -117,77 +117,47 @@ impl Verdict {
     }
 }
 
-// What comparing two lent clocks answers.
-#[derive(Clone, Copy)]
-pub enum Ordered {
-    Refused(Refusal),
-    Done(Verdict),
+// Whether so many are not 1 to 32: a list has no such number of processes, a clock no such length.
+pub fn is_wrong_count(n: usize) -> bool
+    ensures { result ≡ wrong_count n }
+{
+    (n < 1) | (Clock::PROCESSES < n)
 }
 
-#[derive(Clone, Copy)]
-struct Both {
-    there: bool,
-    back: bool,
-}
-
-// Whether no component of the first exceeds the second's, and the other way round.
-fn ways(first: &[u16], second: &[u16]) -> Both
+// Whether no component of the first exceeds the second's.
+fn is_within(first: &[u16], second: &[u16]) -> bool
     requires { length first.now ≡ length second.now }
-    ensures { (result.there ≡ within (length first.now) first.now second.now)
-        × (result.back ≡ within (length first.now) second.now first.now) }
+    ensures { result ≡ within (length first.now) first.now second.now }
 {
-    let mut there = true;
-    let mut back = true;
-    let mut k: usize = 0;
-    while k < first.len() {
-        there = there & (first[k] <= second[k]);
-        back = back & (second[k] <= first[k]);
-        k += 1;
-    }
-    Both {
-        there: there,
-        back: back,
-    }
+    first.iter().zip(second).all(|(a, b)| *a <= *b)
 }
 
-fn judge(w: Both) -> Verdict
-    ensures { number result ≡ cond (w.there && not w.back) 1 (cond (w.back && not w.there) 2 (cond (w.there && w.back) 4 3)) }
+// The verdict where it is known whether the first clock is within the second, and the second within the first.
+fn judge(there: bool, back: bool) -> Verdict
+    ensures { number result ≡ cond (there && not back) 1 (cond (back && not there) 2 (cond (there && back) 4 3)) }
 {
-    if w.there & !w.back {
-        return Verdict::Before;
+    match (there, back) {
+        (true, false) => Verdict::Before,
+        (false, true) => Verdict::After,
+        (true, true) => Verdict::Same,
+        (false, false) => Verdict::Neither,
     }
-    if w.back & !w.there {
-        return Verdict::After;
-    }
-    if w.there & w.back {
-        return Verdict::Same;
-    }
-    Verdict::Neither
 }
 
 // The verdict on two lent clocks; 4 where a length is not 1 to 32, or the two differ.
-pub fn order(first: &[u16], second: &[u16]) -> Ordered
+pub fn order(first: &[u16], second: &[u16]) -> Result<Verdict, Refusal>
     ensures { ordered result ≡ ordering first.now second.now }
 {
     let n = first.len();
-    if (n < 1) | (Clock::PROCESSES < n) | (n != second.len()) {
-        return Ordered::Refused(Refusal::of_call(4));
+    if is_wrong_count(n) | (n != second.len()) {
+        return Err(Refusal::from(Check::Count));
     }
-    Ordered::Done(judge(ways(first, second)))
+    Ok(judge(is_within(first, second), is_within(second, first)))
 }
 
 // LC2 (b), then LC1: a process whose value is `own` receives a message that carries t, or nothing, which is 0. The largest u16 stays.
 pub fn one_up(own: u16, t: u16) -> u16
     ensures { result ≡ one_up own t }
 {
-    if own == 65535 {
-        return own;
-    }
-    if t == 65535 {
-        return t;
-    }
-    if own < t {
-        return t + 1;
-    }
-    own + 1
+    own.max(t).saturating_add(1)
 }

@@ -1,15 +1,30 @@
-use mathlib.Core.Path.{ap, ◌∙◌}
+use mathlib.Core.Path.{◌≡◌, ap, sym, ◌∙◌}
+use mathlib.Core.Bool.{true, false}
+use lib.ListN.{length}
+use Rattle.paper.specs.Order.{within}
 use Rattle.paper.specs.Refusals.{refused, done}
-use Rattle.clock.proofs.Laws.{ordering_refused, ordering_judged, same_length}
+use Rattle.clock.proofs.Laws.{unfit, ordering_refused, ordering_judged, same_length}
 use Rattle.clock.proofs.order.Goals as goal
+use Rattle.clock.proofs.order.Goals.{Then-is_wrong_count-n, Else-is_wrong_count-n}
 
-pub returns-then-n-second : goal.returns-then-n-second
-returns-then-n-second c = ap refused c.of_call.ensures ∙ ordering_refused _ _ c.if-n-second.true
+is_unfit : (c : Then-is_wrong_count-n) → unfit (length c.args.first.now) (length c.args.second.now) ≡ true
+is_unfit c = rw (← c.is_wrong_count.ensures) c.if-is_wrong_count-n.true
 
-pub ways-requires : goal.ways-requires
-ways-requires c = same_length _ _ c.if-n-second.false
+is_fit : (c : Else-is_wrong_count-n) → unfit (length c.args.first.now) (length c.args.second.now) ≡ false
+is_fit c = rw (← c.is_wrong_count.ensures) c.if-is_wrong_count-n.false
+
+pub returns-then-is_wrong_count-n : goal.returns-then-is_wrong_count-n
+returns-then-is_wrong_count-n c = ap refused c.from.ensures ∙ ordering_refused _ _ (is_unfit (goal.at.returns-then-is_wrong_count-n c).Then-is_wrong_count-n)
+
+pub is_within-requires : goal.is_within-requires
+is_within-requires c = same_length _ _ (is_fit (goal.at.is_within-requires c).Else-is_wrong_count-n)
+
+pub is_within-requires-2 : goal.is_within-requires-2
+is_within-requires-2 c = sym (same_length _ _ (is_fit (goal.at.is_within-requires-2 c).Else-is_wrong_count-n))
 
 pub returns : goal.returns
 returns c =
-    let w = c.ways.ensures in
-    ap done c.judge.ensures ∙ ordering_judged _ _ _ _ c.if-n-second.false w.0 w.1
+    let fit = is_fit (goal.at.returns c).Else-is_wrong_count-n in
+    let e = same_length _ _ fit in
+    let back = c.is_within-2.ensures ∙ ap (λ n. within n c.args.second.now c.args.first.now) (sym e) in
+    ap done c.judge.ensures ∙ ordering_judged _ _ _ _ fit c.is_within.ensures back
