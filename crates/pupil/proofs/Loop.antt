@@ -1,13 +1,14 @@
--- The loop over the lines: what holds at its head, and one law each for its start, a turn and its end.
-use Prim.Native.Nat.{ℕ, suc, ◌+◌, ◌≤◌, ◌<◌}
+-- The loop over the lines: what holds at its head, and one law each for its start and a turn.
+use Prim.Native.Nat.{ℕ, suc, ◌+◌, ◌≤◌}
 use native.Mathlib.Nat.{zero-add}
 use native.Mathlib.Numerals.{add-one}
 use native.Mathlib.Omega.{arith}
 use mathlib.Core.Path.{◌≡◌, refl, sym, ap, ◌∙◌}
 use mathlib.Core.Bool.{Bool, true, false, cond}
 use mathlib.Core.List.{List}
-use lib.ListN.{length, set}
-use lib.Seq.{sets, length-sets}
+use lib.ListN.{set}
+use lib.Seq.{sets}
+use Rattle.std.specs.Int.{from_bool}
 use Rattle.paper.specs.Marking.{line_at}
 use Rattle.paper.specs.Stamp.{count, upto}
 use Rattle.paper.proofs.Laws.Masks.{count_le, length_upto}
@@ -15,50 +16,47 @@ use Rattle.paper.proofs.Laws.Stores.{stored}
 use Rattle.pupil.specs.Rows.{row_right, row_mark, row_marks, row_total}
 
 -- The first j lines are marked.
-pub record To (n m : ℕ) (clocks lines old : List ℕ) (k : ℕ) (slots : List ℕ) (total j : ℕ) : Type 0 where
-  pub high : j ≤ k
+pub record To (n m : ℕ) (clocks lines old slots : List ℕ) (total j : ℕ) : Type 0 where
   pub is : slots ≡ sets old 0 (row_marks n m clocks lines j)
   pub sum : total ≡ row_total n m clocks lines j
   pub small : total ≤ j
-  pub long : length slots ≡ length old
 
-module _ {n m : ℕ} {clocks lines old : List ℕ} {k : ℕ} where
-  pub to_start : To n m clocks lines old k old 0 0
+module _ {n m : ℕ} {clocks lines old : List ℕ} where
+  pub to_start : To n m clocks lines old old 0 0
   unfolding upto count
-  to_start = record { high = omega arith; is = refl; sum = refl; small = omega arith; long = refl }
+  to_start = record { is = refl; sum = refl; small = omega arith }
 
-  module _ {slots : List ℕ} {total j : ℕ} (t : To n m clocks lines old k slots total j) where
+  module _ {slots : List ℕ} {total j : ℕ} (t : To n m clocks lines old slots total j) where
     abbrev p : ℕ → Bool
     p i = row_right n m clocks (line_at lines i)
 
-    one_more : (x : ℕ) → x ≡ row_mark n m clocks lines j → total + x ≡ row_total n m clocks lines (suc j)
+    one_more : (r : Bool) → r ≡ p j → total + from_bool r ≡ row_total n m clocks lines (suc j)
     unfolding count
-    one_more x e = rw (e, t.sum) (go (p j))
+    one_more r e = rw (e, t.sum) (go (p j))
       where
-        go : (s : Bool) → count p j + cond s 1 0 ≡ cond s (count p j + 1) (count p j)
+        go : (s : Bool) → count p j + from_bool s ≡ cond s (count p j + 1) (count p j)
         go true = refl
         go false = omega arith
 
-    store : (x : ℕ) → x ≡ row_mark n m clocks lines j → set slots j x ≡ sets old 0 (row_marks n m clocks lines (suc j))
+    store : (r : Bool) → r ≡ p j → set slots j (from_bool r) ≡ sets old 0 (row_marks n m clocks lines (suc j))
     unfolding upto
-    store x e =
+    store r e =
         let f = row_mark n m clocks lines in
-        rw e (rw zero-add at (stored slots old 0 j (f j) (row_marks n m clocks lines j) t.is (sym (length_upto f j))))
+        let q : from_bool r ≡ f j = go r ∙ ap (λ (x : Bool). cond x 1 0) e in
+        rw q (rw zero-add at (stored slots old 0 j (f j) (row_marks n m clocks lines j) t.is (sym (length_upto f j))))
+      where
+        go : (s : Bool) → from_bool s ≡ cond s 1 0
+        go true = refl
+        go false = refl
 
-    pub to_more : {x y : ℕ} → x ≡ row_mark n m clocks lines j → y ≡ x → j < k → To n m clocks lines old k (set slots j x) (total + y) (j + 1)
-    to_more {x} {y} e q l =
-        let s : total + y ≡ row_total n m clocks lines (suc j) = one_more y (q ∙ e) in
-        let o : set slots j x ≡ sets old 0 (row_marks n m clocks lines (suc j)) = store x e in
+    -- Whether the line at j is right is put into its slot and added to the total.
+    pub to_more :
+        {r : Bool} {x y : ℕ} → r ≡ p j → x ≡ from_bool r → y ≡ from_bool r → To n m clocks lines old (set slots j x) (total + y) (j + 1)
+    to_more {r} {x} {y} e f g =
+        let s : total + y ≡ row_total n m clocks lines (suc j) = rw g (one_more r e) in
         let next : suc j ≡ j + 1 = sym (add-one j) in
         record {
-          high = omega arith;
-          is = o ∙ ap (λ (i : ℕ). sets old 0 (row_marks n m clocks lines i)) next;
+          is = rw f (store r e) ∙ ap (λ (i : ℕ). sets old 0 (row_marks n m clocks lines i)) next;
           sum = s ∙ ap (row_total n m clocks lines) next;
           small = omega (arith, s, count_le p (suc j));
-          long = ap length o ∙ length-sets old 0 (row_marks n m clocks lines (suc j));
         }
-
-    pub to_end : k ≤ j → (total ≡ row_total n m clocks lines k) × (slots ≡ sets old 0 (row_marks n m clocks lines k))
-    to_end l =
-        let e : j ≡ k = omega (arith, t.high) in
-        (t.sum ∙ ap (row_total n m clocks lines) e, t.is ∙ ap (λ (i : ℕ). sets old 0 (row_marks n m clocks lines i)) e)

@@ -1,18 +1,18 @@
 // A pupil's list marked on a sheet: 1 mark or 0 for each line, and the total.
 #![tactic(auto)]
 
-ghost use Rattle.std.specs.Prelude.{◌≡◌, cond, ◌≤◌, ◌<◌, length};
+ghost use Rattle.std.specs.Prelude.{◌≡◌, ◌≤◌, ◌<◌, length};
 ghost use Rattle.std.proofs.lemmas.List.Edits.{sets};
 ghost use Rattle.paper.specs.Bytes as bytes;
 ghost use Rattle.paper.specs.Marking as paper;
 ghost use Rattle.paper.specs.Marking.{line_count};
 ghost use Rattle.course.specs.Said.{work};
-ghost use Rattle.pupil.specs.Rows.{row_mark, row_marks, row_total, marking_rest};
+ghost use Rattle.pupil.specs.Rows.{row_right, row_marks, row_total, marking_rest};
+ghost use Rattle.pupil.specs.Given.{line};
 ghost use Rattle.pupil.specs.Said.{marked};
 
 use clock::{Ordered, Position, Refusal};
 use octets::read::two_at;
-use octets::width::{wide, wide16};
 use sheet::Reading;
 
 // What marking answers: the total, and of how many lines.
@@ -22,54 +22,57 @@ pub enum Marked {
     Done(usize, usize),
 }
 
+// A line of a pupil's list: two events, and the verdict given on them.
+#[derive(Clone, Copy)]
+struct Line {
+    first: Position,
+    second: Position,
+    verdict: usize,
+}
+
 // The number in the two bytes from k on.
 fn number_at(lines: &[u8], k: usize) -> usize
     ensures { result ≡ bytes.two lines.now k }
 {
-    wide16(two_at(lines, k))
+    usize::from(two_at(lines, k))
 }
 
-// 1 for a right line, 0 for another.
-fn points(right: bool) -> u8
-    ensures { result ≡ cond right 1 0 }
-{
-    if right {
-        return 1;
-    }
-    0
-}
-
-// The mark of the line at j on m events of n processes, whose clocks stand in the slots.
-fn mark_at(n: usize, m: usize, clocks: &[u16], lines: &[u8], j: usize) -> u8
+// The line at j.
+fn line_at(lines: &[u8], j: usize) -> Line
     requires { j < 200 }
-    ensures { result ≡ row_mark n m clocks.now lines.now j }
+    ensures { line result ≡ paper.line_at lines.now j }
 {
-    let first = Position(number_at(lines, 6 * j));
-    let second = Position(number_at(lines, 6 * j + 2));
-    let given = number_at(lines, 6 * j + 4);
-    if !(first.0 < m) | !(second.0 < m) {
-        return 0;
-    }
-    match order::judge(n, clocks, first, second) {
-        Ordered::Refused(_) => 0,
-        Ordered::Done(v) => points(given == v.number()),
+    Line {
+        first: Position(number_at(lines, 6 * j)),
+        second: Position(number_at(lines, 6 * j + 2)),
+        verdict: number_at(lines, 6 * j + 4),
     }
 }
 
-// The marks of all lines, at the front of the slots, and their total.
+// Whether a line is right on m events of n processes, whose clocks stand in the slots.
+fn is_right(n: usize, m: usize, clocks: &[u16], given: Line) -> bool
+    ensures { result ≡ row_right n m clocks.now (line given) }
+{
+    if !(given.first.0 < m) | !(given.second.0 < m) {
+        return false;
+    }
+    match order::judge(n, clocks, given.first, given.second) {
+        Ordered::Refused(_) => false,
+        Ordered::Done(v) => given.verdict == v.number(),
+    }
+}
+
+// The marks of all lines, 1 for a right one and 0 for another, at the front of the slots, and their total.
 fn mark_all(n: usize, m: usize, clocks: &[u16], lines: &[u8], marks: &mut [u8]) -> usize
     requires { (length lines.now ≤ 1200) × (line_count lines.now ≤ length marks.old) }
     ensures { (result ≡ row_total n m clocks.now lines.now (line_count lines.now))
         × (marks.new ≡ sets marks.old 0 (row_marks n m clocks.now lines.now (line_count lines.now))) }
 {
-    let k = lines.len() / 6;
     let mut total: usize = 0;
-    let mut j: usize = 0;
-    while j < k {
-        let mark = mark_at(n, m, clocks, lines, j);
-        marks[j] = mark;
-        total += wide(mark);
-        j += 1;
+    for j in 0..lines.len() / 6 {
+        let right = is_right(n, m, clocks, line_at(lines, j));
+        marks[j] = u8::from(right);
+        total += usize::from(right);
     }
     total
 }

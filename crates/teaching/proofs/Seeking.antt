@@ -23,9 +23,6 @@ pub seek_start : {list : List ℕ} {message : ℕ} → (s : ℕ) × Sent list me
 seek_start h = record { place = h.0; ahead = omega arith; sent = h.1 }
 
 module _ {list : List ℕ} {message c : ℕ} (k : Seeking list message c) where
-  pub seek_room : c < 512
-  seek_room = let s = k.sent in omega (arith, k.ahead, s.inside, s.brief)
-
   pub seek_more : (t : Bool) → t ≡ is_send_of list c message → t ≡ false → Seeking list message (c + 1)
   seek_more t is h = record { place = k.place; ahead = go (eq-or-lt_of_le k.ahead); sent = k.sent }
     where

@@ -44,17 +44,15 @@ fn learner(terms: Terms, list: &[u8], clocks: &[u16], first: Position, second: P
         × (process_at list.now second.0 ≢ process_at list.now first.0) }
     ensures { result.0 ≡ paper.learner (accepted_of (stated terms) list.now) first.0 second.0 }
 {
-    // Two numbers, since the loop's invariant can name no struct that the loop does not use.
-    let a = first.0;
-    let b = second.0;
-    let p = process_at(list, Position(a));
-    let process = process_at(list, Position(b));
-    let own = component(terms.processes, clocks, Position(a), p);
-    let mut c: usize = 0;
-    while !has_learnt(terms, list, clocks, Position(c), process, p, own) {
-        c += 1;
+    let p = process_at(list, first);
+    let process = process_at(list, second);
+    let own = component(terms.processes, clocks, first, p);
+    for c in 0..list.len() / 8 {
+        if has_learnt(terms, list, clocks, Position(c), process, p, own) {
+            return Position(c);
+        }
     }
-    Position(c)
+    unreachable!()
 }
 
 // Whether the event at c is a send of that number.
@@ -70,11 +68,12 @@ fn sender(list: &[u8], message: Message) -> Position
     requires { (s : ℕ) × Sent list.now message.0 s }
     ensures { Sent list.now message.0 result.0 }
 {
-    let mut c: usize = 0;
-    while !is_send_of(list, Position(c), message) {
-        c += 1;
+    for c in 0..list.len() / 8 {
+        if is_send_of(list, Position(c), message) {
+            return Position(c);
+        }
     }
-    Position(c)
+    unreachable!()
 }
 
 // The positions of the chain's sends, in causal order, at the front of the output; and how many they are.
