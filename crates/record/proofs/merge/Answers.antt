@@ -4,7 +4,7 @@ use mathlib.Core.Path.{◌≡◌}
 use Prim.Native.Nat.{◌^◌, ◌<◌}
 use native.Mathlib.Omega.{arith}
 use Rattle.record.specs.Moves.{mergeable}
-use Rattle.record.specs.View.{view, row}
+use Rattle.record.specs.View.{view}
 use Rattle.record.proofs.Limits.{merge_fits, merge_yes, merge_no}
 use Rattle.record.proofs.merge.Goals as goal
 use Rattle.record.proofs.merge.Goals.{Start, Then-is_countable-has_values}
@@ -15,14 +15,14 @@ word c = omega (arith, c.ranges.mask)
 -- In the branch, the limits hold.
 allowed : (c : goal.Then-is_countable-has_values)
     → let a = c.args in
-    mergeable a.by.0 a.mask a.values.now a.at (row a.running.now 0) ≡ true
+    mergeable a.by.0 a.mask a.values.now a.at a.running.now.clock ≡ true
 allowed c = rw (c.is_countable.ensures, c.has_values.ensures) at c.if-is_countable-has_values.true
 
 pub take-requires : goal.take-requires
 take-requires c =
     let a = c.args in
-    let f = merge_fits a.by.0 a.mask a.values.now a.at (row a.running.now 0) (word (goal.at.take-requires c).Start) (allowed (goal.at.take-requires c).Then-is_countable-has_values) in
-    (f.0, f.1, f.2, c.rows.ensures)
+    let f = merge_fits a.by.0 a.mask a.values.now a.at a.running.now.clock (word (goal.at.take-requires c).Start) (allowed (goal.at.take-requires c).Then-is_countable-has_values) in
+    (f.0, f.1, f.2)
 
 pub returns-then-is_countable-has_values : goal.returns-then-is_countable-has_values
 returns-then-is_countable-has_values c =

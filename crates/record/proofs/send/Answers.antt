@@ -5,7 +5,7 @@ use native.Mathlib.Omega.{arith}
 use lib.Count.{ones}
 use Rattle.paper.proofs.Laws.Masks.{ones_mask}
 use Rattle.record.specs.Moves.{sendable}
-use Rattle.record.specs.View.{view, row}
+use Rattle.record.specs.View.{view}
 use Rattle.record.proofs.Bits.{few_ones}
 use Rattle.record.proofs.Limits.{send_fits, send_yes, send_no}
 use Rattle.record.proofs.send.Goals as goal
@@ -14,17 +14,17 @@ use Rattle.record.proofs.send.Goals.{Then-is_countable-j}
 -- In the branch, the limits hold.
 allowed : (c : goal.Then-is_countable-j)
     → let a = c.args in
-    sendable a.from.0 a.to.0 a.n a.out.now a.at (row a.running.now 0) ≡ true
+    sendable a.from.0 a.to.0 a.n a.out.now a.at a.running.now.clock ≡ true
 allowed c = rw (c.is_countable.ensures, c.is_roomy.ensures) at c.if-is_countable-j.true
 
 pub cut-mask-requires : goal.cut-mask-requires
 cut-mask-requires c =
     let a = c.args in
-    let f = send_fits a.from.0 a.to.0 a.n a.out.now a.at (row a.running.now 0) (allowed (goal.at.cut-mask-requires c).Then-is_countable-j) in
-    (f.0, f.1, f.2, f.3, f.4, c.rows.ensures)
+    let f = send_fits a.from.0 a.to.0 a.n a.out.now a.at a.running.now.clock (allowed (goal.at.cut-mask-requires c).Then-is_countable-j) in
+    (f.0, f.1, f.2, f.3, f.4)
 
-pub overflow_cast-result : goal.overflow_cast-result
-overflow_cast-result c = omega (arith, few_ones _ _ _ c.cut-mask.ensures.0, c.ranges.n)
+pub overflow_cast-count : goal.overflow_cast-count
+overflow_cast-count c = omega (arith, few_ones _ _ _ c.cut-mask.ensures.0, c.ranges.n)
 
 pub returns-then-is_countable-j : goal.returns-then-is_countable-j
 returns-then-is_countable-j c =

@@ -7,7 +7,7 @@ use Rattle.offers.proofs.Going.{underway_start, kept_lengths, ready, countable, 
 use Rattle.offers.proofs.turn.in_turn.Goals as goal
 
 pub loop-i-init : goal.loop-i-init
-loop-i-init c = underway_start _ _ _ _ _
+loop-i-init c = underway_start _ _ _ _ _ c.new-records.ensures
 
 pub slot-p-requires : goal.slot-p-requires
 slot-p-requires c =

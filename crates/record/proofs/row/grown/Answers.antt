@@ -24,9 +24,6 @@ loop-k-preserved c =
     let p = newer a.updated.now a.last in
     elim c.if-last-updated.branch [
       | then-last-updated w ↦ let yes = lt-ltb _ _ w.if-last-updated.true in
-          (omega arith, rw (add-one, yes) (w.m-is ∙ ap (λ (x : ℕ). bit_or x ((1 * 2 ^ l.k) % 2 ^ 32)) l.invariant.1 ∙ bit_set p l.k (omega arith)))
-      | else-last-updated w ↦ let no = le-ltb _ _ w.if-last-updated.false in (omega arith, rw (add-one, no) (w.m-is ∙ l.invariant.1))
+          rw (add-one, yes) (w.m-is ∙ ap (λ (x : ℕ). bit_or x ((1 * 2 ^ l.k) % 2 ^ 32)) l.invariant ∙ bit_set p l.k (omega arith))
+      | else-last-updated w ↦ let no = le-ltb _ _ w.if-last-updated.false in rw (add-one, no) (w.m-is ∙ l.invariant)
     ]
-
-pub returns : goal.returns
-returns c = let e : c.loop-k.k ≡ 32 = omega arith in rw (← e) c.loop-k.invariant.1
