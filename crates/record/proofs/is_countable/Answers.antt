@@ -7,7 +7,7 @@ use Rattle.record.proofs.is_countable.Goals as goal
 pub returns-then-i-lt-PROCESSES : goal.returns-then-i-lt-PROCESSES
 returns-then-i-lt-PROCESSES c =
     let h : c.args.by.0 < 32 = omega arith in
-    simp (c.wide16.ensures.0, lt-ltb _ _ h)
+    simp (c.wide.ensures.0, lt-ltb _ _ h)
 
 pub returns : goal.returns
 returns c =
