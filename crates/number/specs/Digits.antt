@@ -1,7 +1,5 @@
 -- A program's argument: a decimal number of 1 to 5 digits; leading zeros count as digits.
-use Rattle.std.specs.Prelude.{ℕ, ◌+◌, ◌-◌, ◌*◌, Bool, true, cond, ◌&&◌, List, [], ◌∷◌, leb, length}
-use Rattle.number.specs.declared.Number.{Number}
-use Rattle.number.specs.declared.Number.TheVariants.{Is, None}
+use Rattle.std.specs.Prelude.{ℕ, ◌+◌, ◌-◌, ◌*◌, Bool, true, cond, ◌&&◌, List, [], ◌∷◌, Option, None, Some, leb, length}
 
 -- A decimal digit's byte; a text of such bytes alone.
 abbrev pub is_digit : ℕ → Bool
@@ -17,5 +15,5 @@ value_behind v [] = v
 value_behind v (b ∷ s) = value_behind (v * 10 + (b - 48)) s
 
 -- The number that a text says, or none.
-unfoldable pub number_of : List ℕ → Number
-number_of s = cond (leb 1 (length s) && leb (length s) 5 && all_digits s) (Is (value_behind 0 s)) None
+unfoldable pub number_of : List ℕ → Option ℕ
+number_of s = cond (leb 1 (length s) && leb (length s) 5 && all_digits s) (Some (value_behind 0 s)) None

@@ -2,30 +2,24 @@
 ghost use Rattle.std.specs.Prelude.{◌≡◌, ◌-◌, ◌≤◌, ◌<◌, length};
 ghost use Rattle.number.specs.Digits.{is_digit, all_digits, value_behind};
 
-use octets::width::wide;
+use octets::width::Narrow;
 
 fn is_digit(b: u8) -> bool
     ensures { result ≡ is_digit b }
 {
-    (48 <= b) & (b <= 57)
+    (b'0' <= b) & (b <= b'9')
 }
 
 fn digit(b: u8) -> usize
     ensures { (result ≡ b - 48) × (result < 208) }
 {
-    if 48 <= b { wide(b - 48) } else { 0 }
+    b.saturating_sub(b'0').wide()
 }
 
 pub(crate) fn all_digits(s: &[u8]) -> bool
     ensures { result ≡ all_digits s.now }
 {
-    let mut all = true;
-    let mut i = s.len();
-    while 0 < i {
-        i -= 1;
-        all = is_digit(s[i]) & all;
-    }
-    all
+    s.iter().all(|b| is_digit(*b))
 }
 
 pub(crate) fn value(s: &[u8]) -> usize
@@ -33,10 +27,8 @@ pub(crate) fn value(s: &[u8]) -> usize
     ensures { result ≡ value_behind 0 s.now }
 {
     let mut v = 0;
-    let mut i = 0;
-    while i < s.len() {
-        v = v * 10 + digit(s[i]);
-        i += 1;
+    for b in s {
+        v = v * 10 + digit(*b);
     }
     v
 }

@@ -6,25 +6,12 @@ ghost use Rattle.number.specs.Digits.{number_of};
 
 mod digits;
 
-// What an argument says.
-#[derive(Clone, Copy)]
-pub enum Number {
-    Is(usize),
-    None,
-}
-
 // A decimal number of 1 to 5 digits, or none.
-pub fn parse(text: &[u8]) -> Number
+pub fn parse(text: &[u8]) -> Option<usize>
     ensures { result ≡ number_of text.now }
 {
-    if text.len() < 1 {
-        return Number::None;
+    if text.is_empty() || 5 < text.len() || !digits::all_digits(text) {
+        return None;
     }
-    if 5 < text.len() {
-        return Number::None;
-    }
-    if digits::all_digits(text) {
-        return Number::Is(digits::value(text));
-    }
-    Number::None
+    Some(digits::value(text))
 }

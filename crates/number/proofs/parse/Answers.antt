@@ -1,21 +1,27 @@
-use mathlib.Core.Path.{◌∙◌, sym, ap}
-use borrow.Author.Tests.{le-leb, lt-leb}
-use Rattle.number.specs.declared.Number.TheVariants.{Is}
+use mathlib.Core.Path.{sym, ap}
+use native.Mathlib.Omega.{arith}
+use borrow.Author.Tests.{le-leb, lt-leb, true-eqb, false-eqb}
+use lib.ListN.{length}
+use Rattle.std.proofs.Common.{Some}
 use Rattle.number.specs.Digits.{number_of}
 use Rattle.number.proofs.parse.Goals as goal
+use Rattle.number.proofs.parse.Goals.{then-is_empty-via-then-is_empty, then-is_empty-via-else-is_empty+then-text-gt5, then-is_empty-via-else-is_empty+else-text-gt5+then-not-all_digits}
 
-pub returns-then-text-lt1 : goal.returns-then-text-lt1
+pub returns-then-is_empty : goal.returns-then-is_empty
 unfolding number_of
-returns-then-text-lt1 c = simp (lt-leb _ _ c.if-text-lt1.true)
-
-pub returns-then-text-gt5 : goal.returns-then-text-gt5
-unfolding number_of
-returns-then-text-gt5 c = simp (le-leb _ _ c.if-text-lt1.false, lt-leb _ _ c.if-text-gt5.true)
-
-pub returns-then-all_digits : goal.returns-then-all_digits
-unfolding number_of
-returns-then-all_digits c = simp (le-leb _ _ c.if-text-lt1.false, le-leb _ _ c.if-text-gt5.false, sym c.all_digits.ensures ∙ c.if-all_digits.true) (ap Is c.value.ensures)
+returns-then-is_empty c = elim c.then-is_empty.branch [
+  | then-is_empty-via-then-is_empty w ↦
+      let e = true-eqb _ _ w.if-is_empty.ensures in
+      simp (lt-leb 1 (length c.args.text.now) (omega arith))
+  | then-is_empty-via-else-is_empty+then-text-gt5 w ↦
+      simp (le-leb 1 (length c.args.text.now) (omega arith), lt-leb (length c.args.text.now) 5 (omega arith))
+  | then-is_empty-via-else-is_empty+else-text-gt5+then-not-all_digits w ↦
+      let e = false-eqb _ _ w.if-is_empty.ensures in
+      simp (le-leb 1 (length c.args.text.now) (omega arith), le-leb _ _ w.if-text-gt5.false, sym w.if-not-all_digits.ensures)
+]
 
 pub returns : goal.returns
 unfolding number_of
-returns c = simp (le-leb _ _ c.if-text-lt1.false, le-leb _ _ c.if-text-gt5.false, sym c.all_digits.ensures ∙ c.if-all_digits.false)
+returns c =
+    let e = false-eqb _ _ c.if-is_empty.ensures in
+    simp (le-leb 1 (length c.args.text.now) (omega arith), le-leb _ _ c.if-text-gt5.false, sym c.if-not-all_digits.ensures) (ap Some c.value.ensures)
