@@ -1,12 +1,12 @@
 -- The verdict on two rows of slots: where both are all there it is that on two lent clocks, and where accepted events stand in the slots it is theirs.
-use Prim.Native.Nat.{ℕ, suc, ◌+◌, ◌-◌, ◌*◌, ◌≤◌, ◌<◌}
+use Prim.Native.Nat.{ℕ, suc, ◌+◌, ◌*◌, ◌≤◌, ◌<◌}
 use native.Mathlib.Nat.{le-div_iff_mul-le, mul-suc, mul_comm}
 use native.Mathlib.Omega.{arith}
 use mathlib.Core.Path.{◌≡◌, refl, ap, ◌∙◌}
 use mathlib.Core.Bool.{true, false, not}
 use mathlib.Core.List.{List}
 use lib.Dec.{ltb}
-use lib.ListN.{length, take, drop, length-drop}
+use lib.ListN.{length, drop, length-drop}
 use lib.Seq.{length-take-le}
 use borrow.Author.Tests.{le-ltb, lt-ltb, eq-eqb}
 use Rattle.paper.specs.Buffers.{Work}
@@ -44,14 +44,10 @@ module _ (n : ℕ) (clocks : List ℕ) (a b : ℕ) where
           ((row_below n a clocks some).0 l, (row_below n b clocks some).0 k)
 
       -- The two rows lent as clocks.
-      pub judge_rows :
-          {x : Outcome ℕ} → x ≡ ordering (take (n * a + n - n * a) (drop (n * a) clocks)) (take (n * b + n - n * b) (drop (n * b) clocks))
-          → x ≡ row_verdict n clocks a b
+      pub judge_rows : {x : Outcome ℕ} {v u : List ℕ} → v ≡ row n clocks a → u ≡ row n clocks b → x ≡ ordering v u → x ≡ row_verdict n clocks a b
       unfolding ordering row_verdict
-      judge_rows {x} e =
+      judge_rows {x} {v} {u} p q e =
           let (l, k) = rows_there in
-          let p : n * a + n - n * a ≡ n = omega arith in
-          let q : n * b + n - n * b ≡ n = omega arith in
           let f : length (row n clocks a) ≡ n = length-take-le n (drop (n * a) clocks) (omega (arith, length-drop (n * a) clocks)) in
           let g : length (row n clocks b) ≡ n = length-take-le n (drop (n * b) clocks) (omega (arith, length-drop (n * b) clocks)) in
           e ∙ rw (p, q, f, g, right, eq-eqb n n refl, h)

@@ -1,10 +1,9 @@
--- The paper's outcomes for each case of what is answered here.
-use Rattle.std.specs.Prelude.{ℕ}
-use Rattle.clock.specs.Said.{refusal, number}
-use Rattle.paper.specs.Refusals.{Outcome, refused, done}
-use Rattle.order.specs.declared.Compared as declared_compared
-use Rattle.order.specs.declared.Compared.TheVariants as compared_as
+-- The paper's outcome for each case of what is answered here.
+use Rattle.std.specs.Prelude.{ℕ, Result}
+use Rattle.clock.specs.Said.{told, number}
+use Rattle.clock.specs.declared.Refusal as declared
+use Rattle.clock.specs.declared.Verdict.{Verdict}
+use Rattle.paper.specs.Refusals.{Outcome}
 
-abbrev pub compared : declared_compared.Compared → Outcome ℕ
-compared (compared_as.Refused r) = refused (refusal r)
-compared (compared_as.Done v) = done (number v)
+abbrev pub compared : Result Verdict declared.Refusal → Outcome ℕ
+compared r = told number r

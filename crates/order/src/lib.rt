@@ -1,39 +1,52 @@
 // Which of two events of a list or a sheet is before the other.
 #![tactic(auto)]
 
-ghost use Rattle.std.specs.Prelude.{◌≡◌};
+ghost use Rattle.std.specs.Prelude.{◌≡◌, ◌+◌, ◌*◌, ◌≤◌, length};
 ghost use Rattle.paper.specs.Questions.{comparing, comparing_sheet};
+ghost use Rattle.paper.specs.Stands.{row};
 ghost use Rattle.clock.specs.Said.{stated, ordered};
 ghost use Rattle.course.specs.Said.{work};
 ghost use Rattle.order.specs.Said.{compared};
-ghost use Rattle.order.specs.Judge.{row_verdict};
+ghost use Rattle.order.specs.Judge.{not_both, row_verdict};
 ghost use Rattle.order.specs.Rest.{Compares};
 
-use clock::{Clock, Ordered, Position, Refusal, Terms, Verdict};
+use clock::{Check, Position, Refusal, Terms, Verdict, is_wrong_count};
 use course::Judged;
 use sheet::Reading;
 
-// What comparing two events of a list answers.
-#[derive(Clone, Copy)]
-pub enum Compared {
-    Refused(Refusal),
-    Done(Verdict),
+// Whether one of two positions is not below a count.
+pub fn is_past(count: usize, first: Position, second: Position) -> bool
+    ensures { result ≡ not_both count first.0 second.0 }
+{
+    !(first.0 < count) | !(second.0 < count)
+}
+
+// The slots of the event at a position, n slots to each.
+fn row(n: usize, clocks: &[u16], at: Position) -> &[u16]
+    requires { n * at.0 + n ≤ length clocks.now }
+    ensures { result.now ≡ row n clocks.now at.0 }
+{
+    let from = n * at.0;
+    &clocks[from..from + n]
 }
 
 // The verdict on two events whose clocks stand in slots, n slots to each; 4 where n is not 1 to 32, or the slots of an event are not all there.
-pub fn judge(n: usize, clocks: &[u16], first: Position, second: Position) -> Ordered
+pub fn judge(
+    n: usize,
+    clocks: &[u16],
+    first: Position,
+    second: Position,
+) -> Result<Verdict, Refusal>
     ensures { ordered result ≡ row_verdict n clocks.now first.0 second.0 }
 {
-    if (n < 1) | (Clock::PROCESSES < n) {
-        return Ordered::Refused(Refusal::of_call(4));
+    if is_wrong_count(n) {
+        return Err(Refusal::from(Check::Count));
     }
     let rows = clocks.len() / n;
-    if !(first.0 < rows) | !(second.0 < rows) {
-        return Ordered::Refused(Refusal::of_call(4));
+    if is_past(rows, first, second) {
+        return Err(Refusal::from(Check::Count));
     }
-    let a = n * first.0;
-    let b = n * second.0;
-    clock::order(&clocks[a..a + n], &clocks[b..b + n])
+    clock::order(row(n, clocks, first), row(n, clocks, second))
 }
 
 // What is left of comparing where the events of the list stand in the slots: 20, or the verdict.
@@ -45,19 +58,16 @@ fn comparison(
     values: &mut [u16],
     first: Position,
     second: Position,
-) -> Compared
+) -> Result<Verdict, Refusal>
     ensures { Compares (stated terms) list.now (work clocks.old masks.old values.old)
         first.0 second.0 (compared result) (work clocks.new masks.new values.new) }
 {
     let m = list.len() / 8;
-    if !(first.0 < m) | !(second.0 < m) {
+    if is_past(m, first, second) {
         course::clear(terms.processes, m, clocks, masks, values);
-        return Compared::Refused(Refusal::of_call(20));
+        return Err(Refusal::from(Check::Position));
     }
-    match judge(terms.processes, clocks, first, second) {
-        Ordered::Refused(r) => Compared::Refused(r),
-        Ordered::Done(v) => Compared::Done(v),
-    }
+    judge(terms.processes, clocks, first, second)
 }
 
 // The verdict on two events of a list.
@@ -69,12 +79,12 @@ pub fn compare(
     values: &mut [u16],
     first: Position,
     second: Position,
-) -> Compared
+) -> Result<Verdict, Refusal>
     ensures { (compared result, work clocks.new masks.new values.new)
         ≡ comparing (stated terms) list.now (work clocks.old masks.old values.old) first.0 second.0 }
 {
     match course::strict(terms, list, clocks, masks, values) {
-        Judged::Refused(r) => Compared::Refused(r),
+        Judged::Refused(r) => Err(r),
         Judged::Done(_) => comparison(terms, list, clocks, masks, values, first, second),
     }
 }
@@ -87,12 +97,12 @@ pub fn compare_sheet(
     values: &mut [u16],
     first: Position,
     second: Position,
-) -> Compared
+) -> Result<Verdict, Refusal>
     ensures { (compared result, work clocks.new masks.new values.new)
         ≡ comparing_sheet sheet.now (work clocks.old masks.old values.old) first.0 second.0 }
 {
     match sheet::read(sheet, clocks, masks, values) {
-        Reading::Refused(r) => Compared::Refused(r),
+        Reading::Refused(r) => Err(r),
         Reading::Done(c) => {
             let terms = c.terms;
             let from = c.offset;
