@@ -1,29 +1,27 @@
 // Class mode and the strict course: the outcome of a list of offers, and every slot of the lent buffers.
 #![tactic(auto)]
 
-mod zero;
-
-ghost use Rattle.std.specs.Prelude.{◌≡◌};
+ghost use Rattle.std.specs.Prelude.{◌≡◌, ◌≤◌, length};
 ghost use Rattle.paper.specs.Class as paper;
 ghost use Rattle.paper.specs.Questions as questions;
 ghost use Rattle.clock.specs.Said.{stated};
 ghost use Rattle.course.specs.Said.{work, classed, judged, wiped, wiped_slots};
-ghost use Rattle.course.specs.Slots.{named, Tail, swept};
+ghost use Rattle.course.specs.Slots.{named, Tail, zeroed, swept};
 
 use clock::{Clock, Position, Refusal, Terms};
 
 // What class mode answers: how many events are accepted, and how many values their stamps carry.
-#[derive(Clone, Copy)]
-pub enum Classed {
-    Refused(Refusal),
-    Done(usize, usize),
+#[derive(Clone, Copy, Debug, PartialEq, Eq)]
+pub struct Classed {
+    pub accepted: usize,
+    pub carried: usize,
 }
 
-// What a strict course answers: how many values the stamps carry.
-#[derive(Clone, Copy)]
-pub enum Judged {
-    Refused(Refusal),
-    Done(usize),
+fn zero(slots: &mut [u16], from: usize, to: usize)
+    requires { (from ≤ to) × (to ≤ length slots.old) }
+    ensures { slots.new ≡ zeroed from to slots.old }
+{
+    slots[from..to].fill(0);
 }
 
 // The named slots behind those of k accepted events and their v carried values are set to 0.
@@ -40,9 +38,9 @@ fn tidy(
     ensures { work clocks.new masks.new values.new
         ≡ swept n m k v (work clocks.old masks.old values.old) }
 {
-    zero::clear16(clocks, n * k, n * m);
-    zero::clear32(masks, k, m);
-    zero::clear16(values, v, n * m);
+    zero(clocks, n * k, n * m);
+    masks[k..m].fill(0);
+    zero(values, v, n * m);
 }
 
 // Whether the slots named for m events of n processes are lent.
@@ -70,7 +68,7 @@ pub fn clear_lamports(m: usize, lamports: &mut [u16])
     ensures { lamports.new ≡ wiped_slots m lamports.old }
 {
     if m <= lamports.len() {
-        zero::clear16(lamports, 0, m);
+        zero(lamports, 0, m);
     }
 }
 
@@ -83,13 +81,13 @@ pub fn class_lamport(
     values: &mut [u16],
     answers: &mut [u8],
     lamports: &mut [u16],
-) -> Classed
+) -> Result<Classed, Refusal>
     ensures { ((classed result, work clocks.new masks.new values.new), answers.new, lamports.new)
         ≡ paper.class_lamport (stated terms) list.now (work clocks.old masks.old values.old) answers.old lamports.old }
 {
     let t = offers::run(false, terms, list, clocks, masks, values, answers, lamports);
     if t.number != 0 {
-        return Classed::Refused(Refusal::of_call(t.number));
+        return Err(Refusal::of_call(t.number));
     }
     tidy(
         terms.processes,
@@ -100,8 +98,11 @@ pub fn class_lamport(
         masks,
         values,
     );
-    zero::clear16(lamports, t.accepted, list.len() / 8);
-    Classed::Done(t.accepted, t.carried)
+    zero(lamports, t.accepted, list.len() / 8);
+    Ok(Classed {
+        accepted: t.accepted,
+        carried: t.carried,
+    })
 }
 
 // Class mode where no Lamport numbers are asked for.
@@ -112,7 +113,7 @@ pub fn class(
     masks: &mut [u32],
     values: &mut [u16],
     answers: &mut [u8],
-) -> Classed
+) -> Result<Classed, Refusal>
     ensures { ((classed result, work clocks.new masks.new values.new), answers.new)
         ≡ paper.class (stated terms) list.now (work clocks.old masks.old values.old) answers.old }
 {
@@ -128,7 +129,7 @@ pub fn strict_lamport(
     masks: &mut [u32],
     values: &mut [u16],
     lamports: &mut [u16],
-) -> Judged
+) -> Result<usize, Refusal>
     ensures { ((judged result, work clocks.new masks.new values.new), lamports.new)
         ≡ questions.strict_lamport (stated terms) list.now (work clocks.old masks.old values.old) lamports.old }
 {
@@ -144,7 +145,7 @@ pub fn strict_lamport(
         lamports,
     );
     if t.number != 0 {
-        return Judged::Refused(Refusal::of_call(t.number));
+        return Err(Refusal::of_call(t.number));
     }
     let m = list.len() / 8;
     if t.accepted == t.tried {
@@ -157,14 +158,14 @@ pub fn strict_lamport(
             masks,
             values,
         );
-        zero::clear16(lamports, t.accepted, m);
-        return Judged::Done(t.carried);
+        zero(lamports, t.accepted, m);
+        return Ok(t.carried);
     }
     tidy(terms.processes, m, 0, 0, clocks, masks, values);
-    zero::clear16(lamports, 0, m);
+    zero(lamports, 0, m);
     let at = t.tried - 1;
     let number = answers[at];
-    Judged::Refused(Refusal::of_event(number, Position(at)))
+    Err(Refusal::of_event(number, Position(at)))
 }
 
 // The strict course where no Lamport numbers are asked for.
@@ -174,7 +175,7 @@ pub fn strict(
     clocks: &mut [u16],
     masks: &mut [u32],
     values: &mut [u16],
-) -> Judged
+) -> Result<usize, Refusal>
     ensures { (judged result, work clocks.new masks.new values.new)
         ≡ questions.strict (stated terms) list.now (work clocks.old masks.old values.old) }
 {

@@ -9,8 +9,8 @@ returns-then-t-ne0 c = class_kept c.run-t.ensures c.if-t-ne0.true c.of_call.ensu
 pub tidy-requires : goal.tidy-requires
 tidy-requires c = tail c.run-t.ensures c.if-t-ne0.false
 
-pub clear16-requires : goal.clear16-requires
-clear16-requires c = lamports_tail c.run-t.ensures c.if-t-ne0.false
+pub zero-requires : goal.zero-requires
+zero-requires c = lamports_tail c.run-t.ensures c.if-t-ne0.false
 
 pub returns : goal.returns
-returns c = class_ran c.run-t.ensures c.if-t-ne0.false c.tidy.ensures c.clear16.ensures
+returns c = class_ran c.run-t.ensures c.if-t-ne0.false c.tidy.ensures c.zero.ensures

@@ -11,7 +11,7 @@ pub returns-then-m-lamports : goal.returns-then-m-lamports
 returns-then-m-lamports c =
     let a = c.args in
     rw (le-leb a.m (length a.lamports.now) c.if-m-lamports.true)
-    (c.clear16.ensures ∙ zeroed_cleared a.m [] a.lamports.now {k = 0} refl refl (omega arith) c.if-m-lamports.true)
+    (c.zero.ensures ∙ zeroed_cleared a.m [] a.lamports.now {k = 0} refl refl (omega arith) c.if-m-lamports.true)
 
 pub returns-else-m-lamports : goal.returns-else-m-lamports
 returns-else-m-lamports c = let a = c.args in rw (lt-leb a.m (length a.lamports.now) c.if-m-lamports.false)

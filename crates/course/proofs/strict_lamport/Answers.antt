@@ -12,17 +12,17 @@ returns-then-t-ne0 c = strict_kept c.run-t.ensures c.if-t-ne0.true c.of_call.ens
 pub tidy-requires : goal.tidy-requires
 tidy-requires c = tail c.run-t.ensures c.if-t-ne0.false
 
-pub clear16-requires : goal.clear16-requires
-clear16-requires c = lamports_tail c.run-t.ensures c.if-t-ne0.false
+pub zero-requires : goal.zero-requires
+zero-requires c = lamports_tail c.run-t.ensures c.if-t-ne0.false
 
 pub returns-then-t : goal.returns-then-t
-returns-then-t c = strict_ran c.run-t.ensures c.if-t-ne0.false refl c.if-t.true c.tidy.ensures c.clear16.ensures
+returns-then-t c = strict_ran c.run-t.ensures c.if-t-ne0.false refl c.if-t.true c.tidy.ensures c.zero.ensures
 
 pub tidy-requires-2 : goal.tidy-requires-2
 tidy-requires-2 c = whole_tail c.run-t.ensures c.if-t-ne0.false
 
-pub clear16-requires-2 : goal.clear16-requires-2
-clear16-requires-2 c = (omega arith, (lamports_tail c.run-t.ensures c.if-t-ne0.false).1)
+pub zero-requires-2 : goal.zero-requires-2
+zero-requires-2 c = (omega arith, (lamports_tail c.run-t.ensures c.if-t-ne0.false).1)
 
 pub overflow_sub-at : goal.overflow_sub-at
 overflow_sub-at c = (some_tried c.run-t.ensures c.if-t-ne0.false c.if-t.false).0
@@ -35,4 +35,4 @@ bounds-answers-at c =
 pub returns : goal.returns
 returns c =
     let g = c.of_event.ensures in
-    strict_stopped c.run-t.ensures c.if-t-ne0.false refl c.if-t.false (ap (λ (r : Refusal). r.number) g) (ap (λ (r : Refusal). r.position) g) c.tidy-2.ensures c.clear16-2.ensures
+    strict_stopped c.run-t.ensures c.if-t-ne0.false refl c.if-t.false (ap (λ (r : Refusal). r.number) g) (ap (λ (r : Refusal). r.position) g) c.tidy-2.ensures c.zero-2.ensures
