@@ -11,15 +11,15 @@ ghost use Rattle.pupil.specs.Rows.{row_right, row_marks, row_total, marking_rest
 ghost use Rattle.pupil.specs.Given.{line};
 ghost use Rattle.pupil.specs.Said.{marked};
 
-use clock::{Ordered, Position, Refusal};
+use clock::{Check, Position, Refusal};
 use octets::read::two_at;
 use sheet::Reading;
 
 // What marking answers: the total, and of how many lines.
-#[derive(Clone, Copy)]
-pub enum Marked {
-    Refused(Refusal),
-    Done(usize, usize),
+#[derive(Clone, Copy, Debug, PartialEq, Eq)]
+pub struct Marked {
+    pub total: usize,
+    pub lines: usize,
 }
 
 // A line of a pupil's list: two events, and the verdict given on them.
@@ -53,12 +53,12 @@ fn line_at(lines: &[u8], j: usize) -> Line
 fn is_right(n: usize, m: usize, clocks: &[u16], given: Line) -> bool
     ensures { result ≡ row_right n m clocks.now (line given) }
 {
-    if !(given.first.0 < m) | !(given.second.0 < m) {
+    if order::is_past(m, given.first, given.second) {
         return false;
     }
     match order::judge(n, clocks, given.first, given.second) {
-        Ordered::Refused(_) => false,
-        Ordered::Done(v) => given.verdict == v.number(),
+        Ok(verdict) => given.verdict == verdict.number(),
+        Err(_) => false,
     }
 }
 
@@ -86,7 +86,7 @@ fn marking(
     masks: &mut [u32],
     values: &mut [u16],
     marks: &mut [u8],
-) -> Marked
+) -> Result<Marked, Refusal>
     requires { length lines.now ≤ 1200 }
     ensures { ((marked result, work clocks.new masks.new values.new), marks.new)
         ≡ marking_rest n m lines.now (work clocks.old masks.old values.old) marks.old }
@@ -94,10 +94,10 @@ fn marking(
     let k = lines.len() / 6;
     if marks.len() < k {
         course::clear(n, m, clocks, masks, values);
-        return Marked::Refused(Refusal::of_call(21));
+        return Err(Refusal::from(Check::Output));
     }
     let total = mark_all(n, m, clocks, lines, marks);
-    Marked::Done(total, k)
+    Ok(Marked { total, lines: k })
 }
 
 // Marking a pupil's list on a sheet: 30, then as reading, then 21.
@@ -108,15 +108,15 @@ pub fn mark(
     masks: &mut [u32],
     values: &mut [u16],
     marks: &mut [u8],
-) -> Marked
+) -> Result<Marked, Refusal>
     ensures { ((marked result, work clocks.new masks.new values.new), marks.new)
         ≡ paper.marking sheet.now lines.now (work clocks.old masks.old values.old) marks.old }
 {
     if (lines.len() % 6 != 0) | (1200 < lines.len()) {
-        return Marked::Refused(Refusal::of_call(30));
+        return Err(Refusal::from(Check::Lines));
     }
     match sheet::read(sheet, clocks, masks, values) {
-        Reading::Refused(r) => Marked::Refused(r),
+        Reading::Refused(r) => Err(r),
         Reading::Done(c) => {
             let terms = c.terms;
             marking(

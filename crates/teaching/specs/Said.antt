@@ -1,10 +1,8 @@
--- The paper's outcomes for each case of what is answered here.
-use Rattle.std.specs.Prelude.{ℕ}
-use Rattle.clock.specs.Said.{refusal}
-use Rattle.paper.specs.Refusals.{Outcome, refused, done}
-use Rattle.teaching.specs.declared.Chained as declared_chained
-use Rattle.teaching.specs.declared.Chained.TheVariants as chained_as
+-- The paper's outcome for each case of what is answered here.
+use Rattle.std.specs.Prelude.{ℕ, Result}
+use Rattle.clock.specs.Said.{told}
+use Rattle.clock.specs.declared.Refusal as declared
+use Rattle.paper.specs.Refusals.{Outcome}
 
-abbrev pub chained : declared_chained.Chained → Outcome ℕ
-chained (chained_as.Refused r) = refused (refusal r)
-chained (chained_as.Done k) = done k
+abbrev pub chained : Result ℕ declared.Refusal → Outcome ℕ
+chained r = told (λ k. k) r

@@ -3,68 +3,57 @@
 
 mod path;
 
-ghost use Rattle.std.specs.Prelude.{◌≡◌, ℕ, ◌-◌, length};
+ghost use Rattle.std.specs.Prelude.{◌≡◌, ℕ, ◌<◌, IfErr};
 ghost use Rattle.paper.specs.Buffers.{Work};
 ghost use Rattle.paper.specs.Questions.{chain_slots, chaining, chaining_sheet};
 ghost use Rattle.paper.specs.Stands.{Stands};
+ghost use Rattle.clock.specs.Check.{number_of, checked};
 ghost use Rattle.clock.specs.Said.{stated};
 ghost use Rattle.course.specs.Said.{work};
 ghost use Rattle.order.specs.Judge.{row_verdict};
 ghost use Rattle.teaching.specs.Said.{chained};
 ghost use Rattle.teaching.specs.Rest.{says_before, late, Links};
 
-use clock::{Ordered, Position, Refusal, Terms};
+use clock::{Check, Position, Refusal, Terms, Verdict};
 use course::Judged;
 use sheet::Reading;
-
-// What asking for the chain from one event to another answers: how many sends it has.
-#[derive(Clone, Copy)]
-pub enum Chained {
-    Refused(Refusal),
-    Done(usize),
-}
 
 // How many messages a chain between n processes has at most: with one process none.
 fn room(n: usize) -> usize
     ensures { result ≡ chain_slots n }
 {
-    if n < 2 {
-        return 0;
-    }
-    n - 1
+    n.saturating_sub(1)
 }
 
 // Whether the first of two events whose clocks stand in slots is before the second.
 fn is_before(n: usize, clocks: &[u16], first: Position, second: Position) -> bool
     ensures { result ≡ says_before (row_verdict n clocks.now first.0 second.0) }
 {
-    match order::judge(n, clocks, first, second) {
-        Ordered::Refused(_) => false,
-        Ordered::Done(v) => v.number() == 1,
-    }
+    matches!(order::judge(n, clocks, first, second), Ok(Verdict::Before))
 }
 
-// 20 where a position is not there, 22 where the first is not before the second, 21 where the output has fewer slots than that room, or 0.
-fn late_number(
+// Refuses where a position is not there, where the first is not before the second, and where the output has fewer slots than that room.
+fn late(
     n: usize,
     m: usize,
     clocks: &[u16],
     first: Position,
     second: Position,
     slots: usize,
-) -> u8
-    ensures { result ≡ late n m clocks.now first.0 second.0 slots }
+) -> Result<(), Check>
+    ensures number { checked result ≡ late n m clocks.now first.0 second.0 slots }
+    ensures some { IfErr result (λ c. 0 < number_of c) }
 {
-    if !(first.0 < m) | !(second.0 < m) {
-        return 20;
+    if order::is_past(m, first, second) {
+        return Err(Check::Position);
     }
     if !is_before(n, clocks, first, second) {
-        return 22;
+        return Err(Check::NotBefore);
     }
     if slots < room(n) {
-        return 21;
+        return Err(Check::Output);
     }
-    0
+    Ok(())
 }
 
 // What is left of the chain where the events of the list stand in the slots: 20, 22, 21, or the positions of its sends.
@@ -77,7 +66,7 @@ fn linking(
     first: Position,
     second: Position,
     out: &mut [u16],
-) -> Chained
+) -> Result<usize, Refusal>
     requires { (w : Work) × Stands (stated terms) list.now w (work clocks.old masks.old values.old) }
     ensures { Links (stated terms) list.now (work clocks.old masks.old values.old)
         first.0 second.0 out.old
@@ -85,12 +74,11 @@ fn linking(
 {
     let n = terms.processes;
     let m = list.len() / 8;
-    let number = late_number(n, m, clocks, first, second, out.len());
-    if number != 0 {
+    if let Err(check) = late(n, m, clocks, first, second, out.len()) {
         course::clear(n, m, clocks, masks, values);
-        return Chained::Refused(Refusal::of_call(number));
+        return Err(Refusal::from(check));
     }
-    Chained::Done(path::walk(terms, list, clocks, first, second, out))
+    Ok(path::walk(terms, list, clocks, first, second, out))
 }
 
 // The chain from one event of a list to another: the positions of its sends, at the front of the output.
@@ -103,12 +91,12 @@ pub fn chain(
     first: Position,
     second: Position,
     out: &mut [u16],
-) -> Chained
+) -> Result<usize, Refusal>
     ensures { ((chained result, work clocks.new masks.new values.new), out.new)
         ≡ chaining (stated terms) list.now (work clocks.old masks.old values.old) first.0 second.0 out.old }
 {
     match course::strict(terms, list, clocks, masks, values) {
-        Judged::Refused(r) => Chained::Refused(r),
+        Judged::Refused(r) => Err(r),
         Judged::Done(_) => linking(terms, list, clocks, masks, values, first, second, out),
     }
 }
@@ -122,12 +110,12 @@ pub fn chain_sheet(
     first: Position,
     second: Position,
     out: &mut [u16],
-) -> Chained
+) -> Result<usize, Refusal>
     ensures { ((chained result, work clocks.new masks.new values.new), out.new)
         ≡ chaining_sheet sheet.now (work clocks.old masks.old values.old) first.0 second.0 out.old }
 {
     match sheet::read(sheet, clocks, masks, values) {
-        Reading::Refused(r) => Chained::Refused(r),
+        Reading::Refused(r) => Err(r),
         Reading::Done(c) => {
             let terms = c.terms;
             let from = c.offset;

@@ -10,14 +10,13 @@ ghost use Rattle.teaching.specs.Walk.{Standing, Reaches, path, knows, is_send_of
 
 use clock::event::{SEND, kind_at, message_at, process_at};
 use clock::{Message, Position, Process, Terms};
-use octets::width::wide;
 
 // The component for a process in the clock of the event at a.
 fn component(n: usize, clocks: &[u16], a: Position, p: Process) -> u16
     requires { (n * a.0 + p.0 < length clocks.now) × (a.0 < 512) × (n ≤ 32) }
     ensures { result ≡ get_or clocks.now (n * a.0 + p.0) 0 }
 {
-    let at = n * a.0 + wide(p.0);
+    let at = n * a.0 + usize::from(p.0);
     clocks[at]
 }
 
@@ -35,7 +34,7 @@ fn has_learnt(
     ensures { result ≡ knows terms.processes list.now clocks.now c.0 process.0 p.0 own }
 {
     let on = process_at(list, c);
-    (on.0 == process.0) & (own <= component(terms.processes, clocks, c, p))
+    (on == process) & (own <= component(terms.processes, clocks, c, p))
 }
 
 // The first event on the second's process whose component for the first's process is at least the first's own number.
@@ -60,7 +59,7 @@ fn is_send_of(list: &[u8], c: Position, message: Message) -> bool
     ensures { result ≡ is_send_of list.now c.0 message.0 }
 {
     let m = message_at(list, c);
-    (kind_at(list, c) == SEND) & (m.0 == message.0)
+    (kind_at(list, c) == SEND) & (m == message)
 }
 
 // The event that sends a message.
@@ -92,7 +91,7 @@ pub(crate) fn walk(
 {
     let p = process_at(list, first);
     let q = process_at(list, second);
-    if q.0 == p.0 {
+    if q == p {
         return 0;
     }
     let r = learner(terms, list, clocks, first, second);

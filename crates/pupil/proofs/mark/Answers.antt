@@ -16,7 +16,7 @@ sheet_accepted c = accepted _ _ {c = c.in-Done.c} refl (c.in-Done.ensures.reads,
 pub returns-then-lines : goal.returns-then-lines
 returns-then-lines c =
     let a = c.args in
-    mark_30 a.sheet.now a.lines.now (work a.clocks.now a.masks.now a.values.now) a.marks.now c.if-lines.true c.of_call.ensures
+    mark_30 a.sheet.now a.lines.now (work a.clocks.now a.masks.now a.values.now) a.marks.now c.if-lines.true c.from.ensures
 
 pub marking-requires : goal.marking-requires
 marking-requires c = short_lines c.args.lines.now c.if-lines.false

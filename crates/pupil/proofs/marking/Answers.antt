@@ -6,7 +6,7 @@ use Rattle.pupil.proofs.marking.Goals as goal
 pub returns-then-marks-k : goal.returns-then-marks-k
 returns-then-marks-k c =
     let a = c.args in
-    rest_late a.n a.m a.lines.now (work a.clocks.now a.masks.now a.values.now) a.marks.now c.if-marks-k.true c.of_call.ensures c.clear.ensures
+    rest_late a.n a.m a.lines.now (work a.clocks.now a.masks.now a.values.now) a.marks.now c.if-marks-k.true c.from.ensures c.clear.ensures
 
 pub mark_all-total-requires : goal.mark_all-total-requires
 mark_all-total-requires c = (c.requires, c.if-marks-k.false)
