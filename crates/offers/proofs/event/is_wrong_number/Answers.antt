@@ -1,10 +1,11 @@
 -- 13: one law for an internal event and one for the others.
-use Rattle.offers.specs.View.{event}
-use Rattle.offers.proofs.Events.{number_internal, number_other}
+use mathlib.Core.Path.{ap, ◌∙◌}
+use Rattle.offers.specs.View.{event, kind_number}
+use Rattle.offers.proofs.Events.{other_kind, number_internal, number_other}
 use Rattle.offers.proofs.event.is_wrong_number.Goals as goal
 
-pub returns-then-e-eq0 : goal.returns-then-e-eq0
-returns-then-e-eq0 c = number_internal (event c.args.e) c.if-e-eq0.true
+pub returns-in-Internal : goal.returns-in-Internal
+returns-in-Internal c = number_internal (event c.args.e) (c.requires ∙ ap kind_number c.in-Internal.is)
 
-pub returns : goal.returns
-returns c = number_other (event c.args.e) c.if-e-eq0.false
+pub returns-in_default : goal.returns-in_default
+returns-in_default c = number_other (event c.args.e) (other_kind c.requires c.in_default.not-Internal)

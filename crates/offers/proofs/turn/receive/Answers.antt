@@ -1,22 +1,23 @@
 -- An accepted receive: the record takes in the stamp of the send at `at`, and the channel counts one more as received.
 use mathlib.Core.Path.{refl, sym, ap, ◌∙◌}
-use native.Mathlib.Omega.{arith}
 use Prim.Native.Nat.{ℕ}
 use lib.ListN.{get_or}
+use Rattle.offers.specs.Tables.{tables, fetched}
 use Rattle.record.specs.Moves.{merging}
 use Rattle.record.specs.View.{view}
 use Rattle.record.proofs.Limits.{merged_within}
-use Rattle.offers.proofs.Columns.{column_at, fetched_rows}
+use Rattle.offers.proofs.Columns.{place_at}
 use Rattle.offers.proofs.turn.receive.Goals as goal
 
-pub overflow_add-counts : goal.overflow_add-counts
-overflow_add-counts c = omega (arith, rw (← c.channel_number-ch.ensures.0, column_at c.args.channels.now 1) at c.requires.8)
+pub fetch-requires : goal.fetch-requires
+fetch-requires c = (c.channel_number.ensures.1, rw c.channel_number.ensures.0 c.requires.8)
 
 pub returns : goal.returns
 returns c =
     let a = c.args in
     let h = c.requires in
-    let begins = c.wide16-a.ensures.0 ∙ sym (column_at a.sends.now 3 a.at) in
+    let t = a.tables.now in
+    let begins = c.wide-a.ensures.0 ∙ sym (place_at t a.at) in
     let r = view a.running.now in
     let p = a.e.process.0 in (
       record {
@@ -28,5 +29,5 @@ returns c =
         clock = c.lay.ensures;
         mask = refl;
       },
-      λ head. rw (← c.channel_number-ch.ensures.0) (fetched_rows a.sends.now a.channels.now head _ refl refl),
+      c.fetch.ensures ∙ ap (fetched (tables t)) c.channel_number.ensures.0,
     )
