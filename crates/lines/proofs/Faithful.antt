@@ -10,7 +10,8 @@ use native.Mathlib.Omega.{arith}
 use borrow.Author.Tests.{eq-eqb, eqb-true, le-leb}
 use lib.Dec.{eqb}
 use lib.ListN.{length, get_or, take, drop, replicate, length-replicate, length-append}
-use lib.Seq.{take-append_seam, drop-cons, drop-length}
+use lib.Seq.{take-append_seam, length-take-le, drop-cons, drop-length}
+use Rattle.std.proofs.lemmas.List.{get_or-take}
 use Rattle.paper.specs.Buffers.{Work, laid, entries}
 use Rattle.paper.specs.Bytes.{byte}
 use Rattle.paper.specs.Event.{Event, how_many, events_of}
@@ -41,6 +42,20 @@ accepted_same : (rs qs : List ℕ) (i : ℕ) → ((k : ℕ) → k < i → byte r
 unfolding accepted_before
 accepted_same rs qs zero h = refl
 accepted_same rs qs (suc i) h = rw (accepted_same rs qs i (λ k l. h k (omega arith)), h i (omega arith))
+
+-- The lines of the first k offers are the first k lines.
+pub first_offers :
+    (n : ℕ) (list rs clocks masks : List ℕ) (k : ℕ) → k ≤ length rs
+    → each (offer_line n list (take k rs) clocks masks) (length (take k rs)) ≡ each (offer_line n list rs clocks masks) k
+unfolding offer_line
+first_offers n list rs clocks masks k h =
+    rw (length-take-le k rs h) (each_same _ _ k same)
+  where
+    here : (i : ℕ) → i < k → byte (take k rs) i ≡ byte rs i
+    here i l = get_or-take k rs i 0 l
+
+    same : (i : ℕ) → i < k → offer_line n list (take k rs) clocks masks i ≡ offer_line n list rs clocks masks i
+    same i l = rw (here i l, accepted_same (take k rs) rs i (λ j m. here j (omega arith)))
 
 accepted_cons : (r : ℕ) (rs : List ℕ) (i : ℕ) → accepted_before (r ∷ rs) (suc i) ≡ cond (eqb r 0) 1 0 + accepted_before rs i
 unfolding accepted_before

@@ -7,6 +7,7 @@ use native.Mathlib.Omega.{arith}
 use lib.Dec.{eqb}
 use lib.ListN.{length, get_or, take, drop}
 use lib.Seq.{take-length}
+use mir.Val.{bool_byte}
 use Rattle.paper.specs.Bytes.{byte, text}
 use Rattle.paper.specs.Listing.{decimal, words}
 use Rattle.lines.specs.Programs.{chain_line, accepted_before}
@@ -32,3 +33,8 @@ accepted_few answers (suc k) = go (eqb (byte answers k) 0) (accepted_few answers
     go : (b : Bool) → accepted_before answers k ≤ k → accepted_before answers k + cond b 1 0 ≤ suc k
     go true h = omega arith
     go false h = omega arith
+
+-- The number of a Bool: 1 or 0.
+pub told : (b : Bool) {x : ℕ} → x ≡ bool_byte b → (x ≡ cond b 1 0) × (x ≤ 1)
+told true e = (e, omega arith)
+told false e = (e, omega arith)

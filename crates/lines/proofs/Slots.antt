@@ -4,6 +4,7 @@ use mathlib.Core.Path.{◌≡◌, refl}
 use mathlib.Core.Bool.{Bool, true, false, cond}
 use mathlib.Core.List.{List, [], ◌∷◌, ◌++◌, append_assoc, flat_map}
 use native.Mathlib.Nat.{mul-suc, mul-le-mul_left}
+use native.Mathlib.Omega.{arith}
 use borrow.Author.Tests.{leb-true, le-leb, lt-ltb, le-ltb}
 use lib.Dec.{eqb}
 use lib.ListN.{length, get_or, take, drop}
@@ -26,9 +27,9 @@ letter_is e = go (eqb e.kind 0) (eqb e.kind 1)
 pub fields_are :
     (list : List ℕ) (i : ℕ) {kind process peer message : ℕ}
     → kind ≡ kind_at list i → process ≡ process_at list i → peer ≡ peer_at list i → message ≡ message_at list i
-    → decimal i ++ text " " ++ (kind_letter kind ∷ []) ++ (word process ++ word peer ++ word message) ≡ event_fields i (event_at list (8 * i))
+    → decimal i ++ text " " ++ (kind_letter kind ∷ []) ++ word process ++ word peer ++ word message ≡ event_fields i (event_at list (8 * i))
 unfolding event_fields event_at
-fields_are list i k p q m = rw (k, p, q, m, letter_is (event_at list (8 * i))) (simp append_assoc)
+fields_are list i k p q m = rw (k, p, q, m, letter_is (event_at list (8 * i)))
 
 pub words_are :
     (n : ℕ) (list clocks masks : List ℕ) (i a : ℕ) {mask many : ℕ} → mask ≡ get_or masks a 0 → many ≡ n
@@ -66,3 +67,21 @@ fits n list clocks masks h =
 pub fitted : {n : ℕ} {list clocks masks : List ℕ} → Fitting n list clocks masks → fitting n list clocks masks ≡ true
 unfolding fitting
 fitted f = simp (le-leb _ _ f.few, le-leb _ _ f.short, le-leb _ _ f.clocked, le-leb _ _ f.masked)
+
+-- What is read of the slots as number a.
+pub record Row (n : ℕ) (clocks masks : List ℕ) (a : ℕ) : Type 0 where
+  pub few : n ≤ 32
+  pub small : n * a ≤ 16384
+  pub clock : n * a + n ≤ length clocks
+  pub mask : a < length masks
+
+pub row : (n a : ℕ) (list clocks masks : List ℕ) → fitting n list clocks masks ≡ true → a < how_many list → Row n clocks masks a
+row n a list clocks masks h l =
+    let f = fits n list clocks masks h in
+    let low : a ≤ 512 = omega (arith, f.short) in
+    record {
+      few = f.few;
+      small = omega (arith, f.few, mul-le-mul_left n low);
+      clock = omega (arith, f.clocked, slots_end n a (how_many list) l);
+      mask = omega (arith, f.masked);
+    }

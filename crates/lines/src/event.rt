@@ -1,125 +1,125 @@
-// The line of an accepted event.
-ghost use Rattle.std.specs.Prelude.{◌≡◌, ◌∷◌, [], ◌++◌, ◌+◌, ◌*◌, ◌≤◌, length, get_or};
-ghost use Rattle.paper.specs.Bytes.{text};
-ghost use Rattle.paper.specs.Event.{event_at};
-ghost use Rattle.paper.specs.Listing.{decimal, word, words};
+// The line of an event, over the slots that are lent for the events of a list.
+ghost use Rattle.std.specs.Prelude.{◌≡◌, true, false, ◌++◌, ◌+◌, ◌*◌, ◌≤◌, ◌<◌, MatchOption, length};
+ghost use Rattle.paper.specs.Event.{event_at, how_many};
+ghost use Rattle.paper.specs.Listing.{word, words};
 ghost use Rattle.octets.specs.Appended.{Appended};
-ghost use Rattle.lines.specs.Slots.{kind_letter, event_fields, slot_words, last_field, slot_line};
+ghost use Rattle.lines.specs.Slots.{kind_letter, event_fields, last_field, slot_line, fitting};
 
 use clock::event::{INTERNAL, SEND, kind_at, message_at, peer_at, process_at};
-use clock::{Message, Position, Process};
+use clock::{Clock, Position};
 use octets::store::put;
 use octets::text::{put_decimal, put_word, put_words};
-use octets::width::{wide, wide16, wide32};
+use octets::width::Narrow;
 
-// Mask a; behind the end 0.
-fn mask_at(masks: &[u32], a: usize) -> usize
-    ensures { result ≡ get_or masks.now a 0 }
-{
-    if a < masks.len() {
-        return wide32(masks[a]);
+// A list of events, the slots that hold its clocks and masks, and the numbers that end its lines, where some are lent.
+#[derive(Clone, Copy)]
+pub(crate) struct Slots<'a> {
+    processes: usize,
+    list: &'a [u8],
+    clocks: &'a [u16],
+    masks: &'a [u32],
+    numbers: &'a [u16],
+    ghost fit: { fitting processes list.now clocks.now masks.now ≡ true },
+}
+
+impl<'a> Slots<'a> {
+    // What is lent, where it fits.
+    pub(crate) fn lent(
+        n: usize,
+        list: &'a [u8],
+        clocks: &'a [u16],
+        masks: &'a [u32],
+        numbers: &'a [u16],
+    ) -> Option<Slots<'a>>
+        ensures { MatchOption result (fitting n list.now clocks.now masks.now ≡ false) (λ s. (s.processes ≡ n) × (s.list.now ≡ list.now) × (s.clocks.now ≡ clocks.now) × (s.masks.now ≡ masks.now) × (s.numbers.now ≡ numbers.now)) }
+    {
+        if !fits(n, list, clocks, masks) {
+            return None;
+        }
+        Some(Slots {
+            processes: n,
+            list,
+            clocks,
+            masks,
+            numbers,
+        })
     }
-    0
+
+    // How many events there are.
+    pub(crate) fn events(self) -> usize
+        ensures { (result ≡ how_many self.entry.list.now) × (result ≤ 512) }
+    {
+        self.list.len() / 8
+    }
+
+    // The line of the event at position i, which is accepted as number a.
+    pub(crate) fn put_event(self, out: &mut [u8], at: usize, i: usize, a: usize) -> usize
+        requires { a < how_many self.list.now }
+        ensures { Appended out.old at (slot_line self.entry.processes self.entry.list.now self.entry.clocks.now self.entry.masks.now self.entry.numbers.now i a) result out.new × (result ≤ at + 800) }
+    {
+        let from = self.processes * a;
+        let at = put_fields(out, at, self.list, i);
+        let at = put_stamp(
+            out,
+            at,
+            self.masks[a],
+            &self.clocks[from..from + self.processes],
+        );
+        let at = put_last(out, at, self.numbers, a);
+        put(out, at, b'\n')
+    }
+}
+
+// Whether so many processes and bytes are few enough, and there are slots for each event.
+fn fits(n: usize, list: &[u8], clocks: &[u16], masks: &[u32]) -> bool
+    ensures { result ≡ fitting n list.now clocks.now masks.now }
+{
+    if Clock::PROCESSES < n || 8 * Clock::EVENTS < list.len() {
+        return false;
+    }
+    let events = list.len() / 8;
+    (n * events <= clocks.len()) & (events <= masks.len())
 }
 
 // I, S, R.
 fn letter(kind: u8) -> u8
     ensures { result ≡ kind_letter kind }
 {
-    if kind == INTERNAL {
-        return b'I';
+    match kind {
+        INTERNAL => b'I',
+        SEND => b'S',
+        _ => b'R',
     }
-    if kind == SEND {
-        return b'S';
-    }
-    b'R'
 }
 
-// The position and the kind.
-fn put_kind(out: &mut [u8], at: usize, i: usize, kind: u8) -> usize
-    ensures { Appended out.old at (decimal i ++ text " " ++ (kind_letter kind ∷ [])) result out.new × (result ≤ at + 22) }
-{
-    let a = put_decimal(out, at, i);
-    let b = put(out, a, b' ');
-    put(out, b, letter(kind))
-}
-
-// Process, peer, message.
-fn put_three(out: &mut [u8], at: usize, process: Process, peer: Process, message: Message) -> usize
-    ensures { Appended out.old at (word process.0 ++ word peer.0 ++ word message.0) result out.new × (result ≤ at + 63) }
-{
-    let a = put_word(out, at, wide(process.0));
-    let b = put_word(out, a, wide(peer.0));
-    put_word(out, b, wide16(message.0))
-}
-
-// The fields of the event at position i.
+// The fields of the event at position i: position, kind, process, peer, message.
 fn put_fields(out: &mut [u8], at: usize, list: &[u8], i: usize) -> usize
     ensures { Appended out.old at (event_fields i (event_at list.now (8 * i))) result out.new × (result ≤ at + 85) }
 {
     let e = Position(i);
-    let process = process_at(list, e);
-    let peer = peer_at(list, e);
-    let message = message_at(list, e);
-    let k = put_kind(out, at, i, kind_at(list, e));
-    put_three(out, k, process, peer, message)
+    let at = put_decimal(out, at, i);
+    let at = put(out, at, b' ');
+    let at = put(out, at, letter(kind_at(list, e)));
+    let at = put_word(out, at, process_at(list, e).0.wide());
+    let at = put_word(out, at, peer_at(list, e).0.wide());
+    put_word(out, at, message_at(list, e).0.wide())
 }
 
 // The mask and the components.
-fn put_stamp(out: &mut [u8], at: usize, mask: usize, parts: &[u16]) -> usize
+fn put_stamp(out: &mut [u8], at: usize, mask: u32, parts: &[u16]) -> usize
     requires { length parts.now ≤ 32 }
     ensures { Appended out.old at (word mask ++ words parts.now) result out.new × (result ≤ at + 693) }
 {
-    let a = put_word(out, at, mask);
-    put_words(out, a, parts)
-}
-
-// What the line of the event at position i says before its last field, a events accepted before it.
-fn put_event_words(
-    out: &mut [u8],
-    at: usize,
-    n: usize,
-    list: &[u8],
-    i: usize,
-    clocks: &[u16],
-    masks: &[u32],
-    a: usize,
-) -> usize
-    requires { (n ≤ 32) × (n * a + n ≤ length clocks.now) }
-    ensures { Appended out.old at (slot_words n list.now clocks.now masks.now i a) result out.new × (result ≤ at + 778) }
-{
-    let from = n * a;
-    let end = from + n;
-    let k = put_fields(out, at, list, i);
-    put_stamp(out, k, mask_at(masks, a), &clocks[from..end])
+    let at = put_word(out, at, mask.wide());
+    put_words(out, at, parts)
 }
 
 // The last field: number a, where it is lent.
 fn put_last(out: &mut [u8], at: usize, numbers: &[u16], a: usize) -> usize
     ensures { Appended out.old at (last_field numbers.now a) result out.new × (result ≤ at + 21) }
 {
-    if a < numbers.len() {
-        return put_word(out, at, wide16(numbers[a]));
+    match numbers.get(a) {
+        Some(x) => put_word(out, at, x.wide()),
+        None => at,
     }
-    at
-}
-
-// The line of the event at position i, a events accepted before it.
-pub(crate) fn put_event(
-    out: &mut [u8],
-    at: usize,
-    n: usize,
-    list: &[u8],
-    i: usize,
-    clocks: &[u16],
-    masks: &[u32],
-    numbers: &[u16],
-    a: usize,
-) -> usize
-    requires { (n ≤ 32) × (n * a + n ≤ length clocks.now) }
-    ensures { Appended out.old at (slot_line n list.now clocks.now masks.now numbers.now i a) result out.new × (result ≤ at + 800) }
-{
-    let k = put_event_words(out, at, n, list, i, clocks, masks, a);
-    let last = put_last(out, k, numbers, a);
-    put(out, last, b'\n')
 }

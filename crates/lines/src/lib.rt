@@ -15,9 +15,10 @@ mod listing;
 mod marker;
 mod programs;
 
+use event::Slots;
 use octets::store::{put, put_all};
 use octets::text::{digit, put_decimal, put_named};
-use octets::width::wide;
+use octets::width::Narrow;
 
 // The listing of an accepted list, its clocks and masks standing in the slots lent.
 pub fn listing_text(
@@ -55,30 +56,27 @@ pub fn listing_lamport_text(
 pub fn refusal_text(r: clock::Refusal, out: &mut [u8]) -> usize
     ensures { Printed out.old (refusal_line (refusal r)) result out.new }
 {
-    let a = put_named(out, 0, b"refused", wide(r.number));
-    let b = put_named(out, a, b" at", r.position.0);
-    put(out, b, b'\n')
+    let at = put_named(out, 0, b"refused", r.number.wide());
+    let at = put_named(out, at, b" at", r.position.0);
+    put(out, at, b'\n')
 }
 
 // The verdict's number, on a line.
 pub fn verdict_text(v: clock::Verdict, out: &mut [u8]) -> usize
     ensures { Printed out.old (verdict_line (number v)) result out.new }
 {
-    let k = put_decimal(out, 0, v.number());
-    put(out, k, b'\n')
+    let end = put_decimal(out, 0, v.number());
+    put(out, end, b'\n')
 }
 
 // The chain's positions, the first `len` slots, on one line.
 pub fn chain_text(chain: &[u16], len: usize, out: &mut [u8]) -> usize
     ensures { Printed out.old (chain_text chain.now len) result out.new }
 {
-    if clock::Clock::EVENTS < len {
+    if clock::Clock::EVENTS < len || chain.len() < len {
         return 0;
     }
-    if chain.len() < len {
-        return 0;
-    }
-    programs::put_chain(out, &chain[0..len])
+    programs::put_chain(out, &chain[..len])
 }
 
 // What became of each offer of a list.
@@ -94,29 +92,26 @@ pub fn class_text(
 ) -> usize
     ensures { Printed out.old (class_text n list.now answers.now clocks.now masks.now accepted carried) result out.new }
 {
-    if !listing::fits(n, list, clocks, masks) {
+    let Some(slots) = Slots::lent(n, list, clocks, masks, &[]) else {
+        return 0;
+    };
+    let offers = slots.events();
+    if answers.len() < offers {
         return 0;
     }
-    let m = list.len() / 8;
-    if answers.len() < m {
-        return 0;
-    }
-    let k = programs::put_class_head(out, m, n, accepted, carried);
-    programs::put_offers(out, k, n, list, answers, clocks, masks)
+    let at = programs::put_class_head(out, offers, n, accepted, carried);
+    programs::put_offers(out, at, slots, &answers[..offers])
 }
 
 // The marks of a pupil's lines, the first `len` slots, and their total.
 pub fn marker_text(marks: &[u8], total: usize, len: usize, out: &mut [u8]) -> usize
     ensures { Printed out.old (marker_text marks.now total len) result out.new }
 {
-    if 200 < len {
+    if 200 < len || marks.len() < len {
         return 0;
     }
-    if marks.len() < len {
-        return 0;
-    }
-    let k = marker::put_marks(out, marks, len);
-    marker::put_total(out, k, total, len)
+    let at = marker::put_marks(out, &marks[..len]);
+    marker::put_total(out, at, total, len)
 }
 
 // The line of a sheet without messages.
@@ -130,9 +125,9 @@ pub fn no_messages_text(out: &mut [u8]) -> usize
 pub fn saved_text(hundredths: usize, out: &mut [u8]) -> usize
     ensures { Printed out.old (saved_line hundredths) result out.new }
 {
-    let a = put_named(out, 0, b"saved", hundredths / 100);
-    let b = put(out, a, b'.');
-    let c = put(out, b, digit(hundredths / 10));
-    let d = put(out, c, digit(hundredths));
-    put(out, d, b'\n')
+    let at = put_named(out, 0, b"saved", hundredths / 100);
+    let at = put(out, at, b'.');
+    let at = put(out, at, digit(hundredths / 10));
+    let at = put(out, at, digit(hundredths));
+    put(out, at, b'\n')
 }

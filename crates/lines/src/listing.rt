@@ -1,57 +1,32 @@
 // The listing's head line and its event lines.
-ghost use Rattle.std.specs.Prelude.{◌≡◌, true, ◌+◌, ◌≤◌};
+ghost use Rattle.std.specs.Prelude.{◌+◌, ◌≤◌};
 ghost use Rattle.paper.specs.Event.{how_many};
 ghost use Rattle.paper.specs.Listing.{head_line};
 ghost use Rattle.octets.specs.Appended.{Appended};
 ghost use Rattle.lines.specs.Text.{Printed, each};
-ghost use Rattle.lines.specs.Slots.{slot_line, fitting, numbered_text};
+ghost use Rattle.lines.specs.Slots.{slot_line, numbered_text};
 
-use crate::event;
+use crate::event::Slots;
 use octets::store::put;
 use octets::text::put_named;
 
-pub(crate) fn fits(n: usize, list: &[u8], clocks: &[u16], masks: &[u32]) -> bool
-    ensures { result ≡ fitting n list.now clocks.now masks.now }
+fn put_head(out: &mut [u8], events: usize, processes: usize, carried: usize) -> usize
+    ensures { Appended out.old 0 (head_line events processes carried) result out.new × (result ≤ 100) }
 {
-    if clock::Clock::PROCESSES < n {
-        return false;
-    }
-    if 4096 < list.len() {
-        return false;
-    }
-    let m = list.len() / 8;
-    (n * m <= clocks.len()) & (m <= masks.len())
+    let at = put_named(out, 0, b"events", events);
+    let at = put_named(out, at, b" processes", processes);
+    let at = put_named(out, at, b" entries", carried);
+    put(out, at, b'\n')
 }
 
-fn put_head(out: &mut [u8], m: usize, n: usize, carried: usize) -> usize
-    ensures { Appended out.old 0 (head_line m n carried) result out.new × (result ≤ 100) }
+fn put_events(out: &mut [u8], at: usize, slots: Slots) -> usize
+    ensures { Appended out.old at (each (λ i. slot_line slots.entry.processes slots.entry.list.now slots.entry.clocks.now slots.entry.masks.now slots.entry.numbers.now i i) (how_many slots.entry.list.now)) result out.new × (result ≤ at + 409600) }
 {
-    let a = put_named(out, 0, b"events", m);
-    let b = put_named(out, a, b" processes", n);
-    let c = put_named(out, b, b" entries", carried);
-    put(out, c, b'\n')
-}
-
-fn put_events(
-    out: &mut [u8],
-    at: usize,
-    n: usize,
-    list: &[u8],
-    clocks: &[u16],
-    masks: &[u32],
-    numbers: &[u16],
-) -> usize
-    requires { fitting n list.now clocks.now masks.now ≡ true }
-    ensures { Appended out.old at (each (λ i. slot_line n list.now clocks.now masks.now numbers.now i i) (how_many list.now)) result out.new × (result ≤ at + 409600) }
-{
-    let m = list.len() / 8;
-    let mut k = at;
-    let mut i = 0;
-    while i < m {
-        k = event::put_event(out, k, n, list, i, clocks, masks, numbers, i);
-        i += 1;
+    let mut end = at;
+    for i in 0..slots.events() {
+        end = slots.put_event(out, end, i, i);
     }
-    k
+    end
 }
 
 // The listing of an accepted list, each line with its event's number where one is lent.
@@ -66,9 +41,9 @@ pub(crate) fn put_listing(
 ) -> usize
     ensures { Printed out.old (numbered_text n list.now clocks.now masks.now numbers.now carried) result out.new }
 {
-    if !fits(n, list, clocks, masks) {
+    let Some(slots) = Slots::lent(n, list, clocks, masks, numbers) else {
         return 0;
-    }
-    let k = put_head(out, list.len() / 8, n, carried);
-    put_events(out, k, n, list, clocks, masks, numbers)
+    };
+    let at = put_head(out, slots.events(), n, carried);
+    put_events(out, at, slots)
 }

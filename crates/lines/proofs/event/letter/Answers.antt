@@ -1,15 +1,16 @@
+use native.Mathlib.Omega.{arith}
 use borrow.Author.Tests.{eq-eqb, ne_eqb}
 use Rattle.lines.specs.Slots.{kind_letter}
 use Rattle.lines.proofs.event.letter.Goals as goal
 
-pub returns-then-kind-eq-INTERNAL : goal.returns-then-kind-eq-INTERNAL
+pub returns-in-0 : goal.returns-in-0
 unfolding kind_letter
-returns-then-kind-eq-INTERNAL c = simp (eq-eqb _ _ c.if-kind-eq-INTERNAL.true)
+returns-in-0 c = simp (eq-eqb c.args.kind 0 (omega arith))
 
-pub returns-then-kind-eq-SEND : goal.returns-then-kind-eq-SEND
+pub returns-in-1 : goal.returns-in-1
 unfolding kind_letter
-returns-then-kind-eq-SEND c = simp (ne_eqb _ _ c.if-kind-eq-INTERNAL.false, eq-eqb _ _ c.if-kind-eq-SEND.true)
+returns-in-1 c = simp (ne_eqb c.args.kind 0 (omega arith), eq-eqb c.args.kind 1 (omega arith))
 
-pub returns : goal.returns
+pub returns-in_default : goal.returns-in_default
 unfolding kind_letter
-returns c = simp (ne_eqb _ _ c.if-kind-eq-INTERNAL.false, ne_eqb _ _ c.if-kind-eq-SEND.false)
+returns-in_default c = simp (ne_eqb c.args.kind 0 (omega arith), ne_eqb c.args.kind 1 (omega arith))

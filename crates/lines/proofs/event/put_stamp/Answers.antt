@@ -4,6 +4,6 @@ use Rattle.lines.proofs.event.put_stamp.Goals as goal
 
 pub returns : goal.returns
 returns c =
-    let a = c.put_word-a.ensures in
+    let a = c.put_word-at.ensures in
     let b = c.put_words.ensures in
-    (join a.0 b.0, omega (arith, a.1, b.1))
+    (rw c.wide.ensures.0 at (join a.0 b.0), omega (arith, a.1, b.1))

@@ -1,20 +1,20 @@
-use mathlib.Core.Path.{◌∙◌, sym}
 use native.Mathlib.Omega.{arith}
 use Rattle.lines.specs.Slots.{numbered_text}
 use Rattle.octets.proofs.Appended.{join}
 use Rattle.lines.proofs.Laws.{printed, unprinted}
 use Rattle.lines.proofs.listing.put_listing.Goals as goal
 
-pub returns-then-not-fits : goal.returns-then-not-fits
+pub returns-in_default : goal.returns-in_default
 unfolding numbered_text
-returns-then-not-fits c = rw (sym c.fits.ensures ∙ c.if-not-fits.true) (unprinted _)
-
-pub put_events-requires : goal.put_events-requires
-put_events-requires c = sym c.fits.ensures ∙ c.if-not-fits.false
+returns-in_default c = simp c.in_default.ensures (unprinted _)
 
 pub returns : goal.returns
 unfolding numbered_text
 returns c =
-    let a = c.put_head-k.ensures in
+    let a = c.put_head-at.ensures in
     let b = c.put_events.ensures in
-    rw (sym c.fits.ensures ∙ c.if-not-fits.false) (printed (join a.0 b.0) (omega (arith, a.1, b.1)))
+    let h = c.in-Some.ensures in
+    let fit = rw (h.0, h.1, h.2, h.3) at c.in-Some.slots.fit in
+    let head = rw (c.events.ensures.0, h.1) at a.0 in
+    let lines = simp (h.0, h.1, h.2, h.3, h.4) at b.0 in
+    simp fit (printed (join head lines) (omega (arith, a.1, b.1)))

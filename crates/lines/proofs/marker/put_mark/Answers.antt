@@ -7,7 +7,7 @@ use Rattle.lines.proofs.marker.put_mark.Goals as goal
 pub returns : goal.returns
 unfolding mark_line text
 returns c =
-    let a = c.put_decimal-a.ensures in
-    let b = c.put_word-b.ensures in
+    let a = c.put_decimal-at.ensures in
+    let b = c.put_word-at.ensures in
     let d = c.put.ensures in
     (rw c.wide.ensures.0 at (join (join a.0 b.0) d), omega (arith, a.1, b.1, d.place))
