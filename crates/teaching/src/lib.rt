@@ -16,6 +16,7 @@ ghost use Rattle.teaching.specs.Rest.{says_before, late, Links};
 
 use clock::{Check, Position, Refusal, Terms, Verdict};
 use course::Judged;
+use path::Course;
 use sheet::Reading;
 
 // How many messages a chain between n processes has at most: with one process none.
@@ -78,7 +79,12 @@ fn linking(
         course::clear(n, m, clocks, masks, values);
         return Err(Refusal::from(check));
     }
-    Ok(path::walk(terms, list, clocks, first, second, out))
+    let course = Course {
+        terms,
+        list,
+        clocks,
+    };
+    Ok(course.walk(first, second, out))
 }
 
 // The chain from one event of a list to another: the positions of its sends, at the front of the output.

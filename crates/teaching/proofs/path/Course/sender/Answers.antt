@@ -1,7 +1,7 @@
 -- The scan does not pass the send that is sought, and stops there.
 use native.Mathlib.Omega.{arith}
 use Rattle.teaching.proofs.Seeking.{seek_start, seek_more, seek_found}
-use Rattle.teaching.proofs.path.sender.Goals as goal
+use Rattle.teaching.proofs.path.Course.sender.Goals as goal
 
 pub loop-c-init : goal.loop-c-init
 loop-c-init c = seek_start c.requires

@@ -9,22 +9,22 @@ use Rattle.clock.specs.Event.{process_at}
 use Rattle.clock.specs.Said.{stated}
 use Rattle.teaching.specs.Walk.{Reaches}
 use Rattle.teaching.proofs.Walking.{stops, was_sent, earlier, onward, fits, turn}
-use Rattle.teaching.proofs.path.+walk.Goals as goal
-use Rattle.teaching.proofs.path.+walk.Goals.{Else-eq, After-sender-s, After-walk-k}
+use Rattle.teaching.proofs.path.Course.+walk.Goals as goal
+use Rattle.teaching.proofs.path.Course.+walk.Goals.{Else-eq, After-sender-s, After-walk-k}
 
 -- The two events are on different processes.
-apart : (t : ℕ) (c : goal.Else-eq t) → let a = c.args in process_at a.list.now a.second.0 ≢ process_at a.list.now a.first.0
+apart : (t : ℕ) (c : goal.Else-eq t) → let a = c.args in process_at a.self.list.now a.second.0 ≢ process_at a.self.list.now a.first.0
 apart t c q =
     false≢true (sym c.if-eq.false ∙ c.eq.ensures ∙ eq-eqb c.process_at-q.result.0 c.process_at-p.result.0 (c.process_at-q.ensures ∙ q ∙ sym c.process_at-p.ensures))
 
 -- The walk goes on from the send that was found.
-sent_onward : (t : ℕ) (c : goal.After-sender-s t) → let a = c.args in Reaches (stated a.terms) a.list.now a.first.0 c.sender-s.result.0
+sent_onward : (t : ℕ) (c : goal.After-sender-s t) → let a = c.args in Reaches (stated a.self.terms) a.self.list.now a.first.0 c.sender-s.result.0
 sent_onward t c =
     let s = c.requires in
     onward s.0 s.1 (apart t (goal.at.After-sender-s t c).Else-eq) c.learner-r.ensures c.message_at.ensures c.sender-s.ensures
 
 -- There is a slot for it.
-slot_for_it : (t : ℕ) (c : goal.After-walk-k t) → let a = c.args in (c.walk-k.result + 1 < a.terms.processes) × (a.terms.processes ≤ 32)
+slot_for_it : (t : ℕ) (c : goal.After-walk-k t) → let a = c.args in (c.walk-k.result + 1 < a.self.terms.processes) × (a.self.terms.processes ≤ 32)
 slot_for_it t c =
     let s = c.requires in
     fits s.0 s.1 (apart t (goal.at.After-walk-k t c).Else-eq) c.learner-r.ensures c.message_at.ensures c.sender-s.ensures c.walk-k.ensures.0

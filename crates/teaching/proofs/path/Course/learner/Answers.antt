@@ -7,11 +7,11 @@ use Rattle.clock.specs.Event.{process_at}
 use Rattle.paper.specs.Event.{how_many}
 use Rattle.teaching.specs.Walk.{knows}
 use Rattle.teaching.proofs.Walking.{there, process_few, scan_inside, scan_more, scan_found}
-use Rattle.teaching.proofs.path.learner.Goals as goal
-use Rattle.teaching.proofs.path.learner.Goals.{After-has_learnt, At-loop-c}
+use Rattle.teaching.proofs.path.Course.learner.Goals as goal
+use Rattle.teaching.proofs.path.Course.learner.Goals.{After-has_learnt, At-loop-c}
 
 -- The scan is still inside the list.
-inside : (c : goal.At-loop-c) → c.loop-c.c < how_many c.args.list.now
+inside : (c : goal.At-loop-c) → c.loop-c.c < how_many c.args.self.list.now
 inside c = let s = c.requires in scan_inside s.0 s.1 s.2 c.process_at-p.ensures c.loop-c.invariant
 
 -- What the test says of the two events.
@@ -19,8 +19,8 @@ tested :
     (c : goal.After-has_learnt) → let a = c.args in
     let p = c.process_at-p.result.0 in
     c.has_learnt.result
-    ≡ knows a.terms.processes a.list.now a.clocks.now c.loop-c.c (process_at a.list.now a.second.0) p
-    (get_or a.clocks.now (a.terms.processes * a.first.0 + p) 0)
+    ≡ knows a.self.terms.processes a.self.list.now a.self.clocks.now c.loop-c.c (process_at a.self.list.now a.second.0) p
+    (get_or a.self.clocks.now (a.self.terms.processes * a.first.0 + p) 0)
 tested c = rw (c.process_at-process.ensures, c.component-own.ensures) at c.has_learnt.ensures
 
 pub component-own-requires : goal.component-own-requires

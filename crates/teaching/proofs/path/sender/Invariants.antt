@@ -1,5 +1,0 @@
-use Rattle.teaching.proofs.Seeking.{Seeking}
-use Rattle.teaching.proofs.path.sender.Given as goal
-
-abbrev pub invariant-loop-c : goal.invariant-loop-c
-invariant-loop-c l = Seeking l.fn.list l.fn.message.0 l.c
