@@ -9,6 +9,10 @@ use mathlib.Core.List.{List, [], ◌∷◌, ◌++◌, append_assoc, append-nil}
 use lib.ListN.{length, get_or, replicate, length-replicate}
 use lib.Seq.{get_or_at}
 use borrow.Author.Tests.{eq-eqb, ne_eqb}
+use Rattle.std.specs.Prelude.{Ok, Err}
+use Rattle.clock.specs.Check.{number_of}
+use Rattle.clock.specs.declared.check.Check.{Check}
+use Rattle.clock.proofs.Checks.{some_check}
 use Rattle.paper.specs.Buffers.{Work}
 use Rattle.paper.specs.Event.{event_at, first_events, how_many}
 use Rattle.paper.specs.Machine.{start, answer, answers, run}
@@ -54,25 +58,25 @@ Ends = (Outcome ℕ × Work) × List ℕ
 
 -- A call that an early check refuses, where 512 answers are lent.
 pub strict_kept :
-    {mode : Bool} {terms : Terms} {list : List ℕ} {w w' : Slots} {r : Tried} {given : Refusal} → Called mode terms list w w' r → r.number ≢ 0
-    → given ≡ of_call r.number → length w.page.answers ≡ 512
+    {mode : Bool} {terms : Terms} {list : List ℕ} {w w' : Slots} {e : Check} {given : Refusal} → Called mode terms list w w' (Err e)
+    → given ≡ of_call (number_of e) → length w.page.answers ≡ 512
     → ◌≡◌ {A = Ends} ((refused given, w'.page.work), w'.lamports) (strict_lamport terms list w.page.work w.lamports)
 unfolding strict_lamport
-strict_kept {mode} {terms} {list} {w} {w'} {r} call z g l =
+strict_kept {mode} {terms} {list} {w} {w'} {e} call g l =
     let c = strict_checks terms list w.page.work (w.lamports ∷ []) in
-    let e : r.number ≡ c.early = call.checked ∙ early_strict terms list w l in
-    let q : c.early ≢ 0 = λ o. z (e ∙ o) in
-    let f = g ∙ ap of_call e in
-    let u = (call.refused z).same in
+    let n : number_of e ≡ c.early = call.checked ∙ early_strict terms list w l in
+    let q : c.early ≢ 0 = λ o. absurd (omega (arith, some_check e, n, o)) in
+    let f = g ∙ ap of_call n in
+    let u = call.refused.same in
     rw (ne_eqb c.early 0 q, ne_eqb c.early 0 q) (λ i. ((refused (f i), (u i).page.work), (u i).lamports))
 
 -- A call whose offers were tried, and whose slots were tidied.
-module _ {terms : Terms} {list : List ℕ} {w w₁ : Slots} {r : Tried} (call : Called true terms list w w₁ r) (z : r.number ≡ 0) where
+module _ {terms : Terms} {list : List ℕ} {w w₁ : Slots} {r : Tried} (call : Called true terms list w w₁ (Ok r)) where
   abbrev m₁ : ℕ
   m₁ = how_many list
 
   ran : Ran true terms m₁ list w w₁ r
-  ran = call.passed z
+  ran = call.passed
 
   -- All offers are accepted where as many are accepted as tried; otherwise the last one tried is the first refused.
   ended : (r.accepted ≡ r.tried → Through true terms m₁ list r.tried) × (r.accepted ≢ r.tried → (j : ℕ) × Stopped true terms list r.tried j)
@@ -98,14 +102,14 @@ module _ {terms : Terms} {list : List ℕ} {w w₁ : Slots} {r : Tried} (call : 
               omega (arith, s.behind)
 
   pub some_tried : r.accepted ≢ r.tried → (1 ≤ r.tried) × (r.tried ≤ 512)
-  some_tried q = let (j, s) = ended.1 q in (omega (arith, s.behind), omega (arith, ran.inside, (room call z).short))
+  some_tried q = let (j, s) = ended.1 q in (omega (arith, s.behind), omega (arith, ran.inside, (room call).short))
 
   module _ (long : length w.page.answers ≡ 512) where
     abbrev c : Checks
     c = strict_checks terms list w.page.work (w.lamports ∷ [])
 
     passed : c.early ≡ 0
-    passed = sym (early_strict terms list w long) ∙ sym call.checked ∙ z
+    passed = sym (early_strict terms list w long) ∙ sym call.checked
 
     pub strict_ran : {work' : Work} {numbers' : List ℕ} → r.accepted ≡ r.tried → work' ≡ swept terms.processes m₁ r.accepted r.carried w₁.page.work → numbers' ≡ zeroed r.accepted m₁ w₁.lamports
         → ◌≡◌ {A = Ends} ((done r.carried, work'), numbers') (strict_lamport terms list w.page.work w.lamports)
@@ -116,8 +120,8 @@ module _ {terms : Terms} {list : List ℕ} {w w₁ : Slots} {r : Tried} (call : 
         let every : AllAccepted terms list m₁ = rw e at (t.sound refl) in
         let none : first_refused 0 (answers_at terms list m₁) ≡ of_call 0 = ap (first_refused 0) every ∙ refused_none m₁ 0 in
         let v = rw e at ran.carried_many in
-        let x = a ∙ rw e at (tidied call z) in
-        let y = d ∙ rw e at (lamports_tidied call z) in
+        let x = a ∙ rw e at (tidied call) in
+        let y = d ∙ rw e at (lamports_tidied call) in
         rw (eq-eqb c.early 0 passed, none) (λ i. ((done (v i), x i), y i))
 
     pub strict_stopped : {given : Refusal} {work' : Work} {numbers' : List ℕ} → r.accepted ≢ r.tried → given.number ≡ get_or w₁.page.answers (r.tried - 1) 0 → given.position ≡ r.tried - 1
@@ -134,12 +138,12 @@ module _ {terms : Terms} {list : List ℕ} {w w₁ : Slots} {r : Tried} (call : 
         let lx : length (answers_at terms list r.tried) ≡ r.tried = length_answers terms (first_events r.tried list) (start terms) ∙ length_events r.tried list in
         let there : get_or w₁.page.answers j 0 ≡ x =
         ap (λ (t : List ℕ). get_or t j 0) ran.answer
-        ∙ rw zero-add at (get_d_sets w.page.answers (answers_at terms list r.tried) 0 j (omega (arith, ran.inside, (room call z).answer)) (omega (arith, s.behind)))
+        ∙ rw zero-add at (get_d_sets w.page.answers (answers_at terms list r.tried) 0 j (omega (arith, ran.inside, (room call).answer)) (omega (arith, s.behind)))
         ∙ ap (λ (t : List ℕ). get_or t j 0) xs ∙ get_or_at (replicate j 0) x [] 0 j (length-replicate j 0) in
         let refusing : first_refused 0 (answers_at terms list m₁) ≡ record { number = x; position = j } =
         refused_first terms m₁ list j (omega (arith, s.behind, ran.inside)) s.before s.refused in
         let f = en ∙ ap (λ (i : ℕ). get_or w₁.page.answers i 0) d ∙ there in
         let g = ep ∙ d in
-        let y = a ∙ emptied call z in
-        let o = d₀ ∙ lamports_emptied call z in
+        let y = a ∙ emptied call in
+        let o = d₀ ∙ lamports_emptied call in
         rw (eq-eqb c.early 0 passed, refusing, ne_eqb x 0 s.refused) (λ i. ((refused (record { number = f i; position = g i }), y i), o i))

@@ -7,6 +7,7 @@ use mathlib.Core.Bool.{Bool}
 use mathlib.Core.List.{List, [], flat_map}
 use lib.ListN.{length, replicate}
 use lib.Seq.{sets, length-sets}
+use Rattle.std.specs.Prelude.{Ok}
 use Rattle.paper.specs.Buffers.{laid, clock_slots, mask_slots, value_slots, filled, cleared}
 use Rattle.paper.specs.Event.{first_events, how_many}
 use Rattle.paper.specs.Lamport.{no_scalars, lamports}
@@ -37,16 +38,16 @@ zeroed_cleared named xs old is many few room =
     let o : named - 0 ≡ named = omega arith in
     rw o (ap (λ (s : List ℕ). sets s 0 (replicate named 0)) is ∙ sets_cleared named xs old (omega (arith, many)) room)
 
-module _ {mode : Bool} {terms : Terms} {l : List ℕ} {w₀ w : Slots} {r : Tried} (call : Called mode terms l w₀ w r) (z : r.number ≡ 0) where
+module _ {mode : Bool} {terms : Terms} {l : List ℕ} {w₀ w : Slots} {r : Tried} (call : Called mode terms l w₀ w (Ok r)) where
   abbrev m : ℕ
   m = how_many l
 
   -- Past the early checks, what is lent is enough.
   pub room : Lent terms m l w₀
-  room = lent terms l w₀ (sym call.checked ∙ z)
+  room = lent terms l w₀ (sym call.checked)
 
   ran : Ran mode terms m l w₀ w r
-  ran = call.passed z
+  ran = call.passed
 
   abbrev cs : List Clocked
   cs = accepted_at terms l r.tried

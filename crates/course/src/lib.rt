@@ -85,10 +85,7 @@ pub fn class_lamport(
     ensures { ((classed result, work clocks.new masks.new values.new), answers.new, lamports.new)
         ≡ paper.class_lamport (stated terms) list.now (work clocks.old masks.old values.old) answers.old lamports.old }
 {
-    let t = offers::run(false, terms, list, clocks, masks, values, answers, lamports);
-    if t.number != 0 {
-        return Err(Refusal::of_call(t.number));
-    }
+    let t = offers::run(false, terms, list, clocks, masks, values, answers, lamports)?;
     tidy(
         terms.processes,
         list.len() / 8,
@@ -143,10 +140,7 @@ pub fn strict_lamport(
         values,
         &mut answers,
         lamports,
-    );
-    if t.number != 0 {
-        return Err(Refusal::of_call(t.number));
-    }
+    )?;
     let m = list.len() / 8;
     if t.accepted == t.tried {
         tidy(

@@ -6,7 +6,7 @@ use Rattle.paper.specs.Machine.{answer}
 use Rattle.clock.specs.Said.{stated}
 use Rattle.offers.specs.Turn.{state_at}
 use Rattle.offers.specs.View.{event, kind_number}
-use Rattle.offers.proofs.Checks.{some_check}
+use Rattle.clock.proofs.Checks.{some_check}
 use Rattle.offers.proofs.OneOffer.{few_stamps, v_small, sent_few, answered, refused_moved, p_small, own_small, internal_moved, q_small, send_moved, at_in, place_in, received_few, receive_moved}
 use Rattle.offers.proofs.turn.offered.Goals as goal
 use Rattle.offers.proofs.turn.offered.Goals.{In-Ok, In-Internal, In-Send, In-Receive}

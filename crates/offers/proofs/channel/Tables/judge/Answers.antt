@@ -6,7 +6,7 @@ use Rattle.paper.proofs.Laws.Judged.{Shaped, shape_zero, peer_below}
 use Rattle.clock.specs.Said.{stated}
 use Rattle.offers.specs.View.{event}
 use Rattle.offers.proofs.ByTables.{shape_first, shape_rest}
-use Rattle.offers.proofs.Checks.{some_check}
+use Rattle.clock.proofs.Checks.{some_check}
 use Rattle.offers.proofs.channel.Tables.judge.Goals as goal
 use Rattle.offers.proofs.channel.Tables.judge.Goals.{In_ok-kind}
 
