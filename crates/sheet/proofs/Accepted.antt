@@ -3,6 +3,7 @@ use Prim.Native.Nat.{ℕ, ◌+◌, ◌-◌, ◌/◌, ◌≤◌}
 use native.Mathlib.Omega.{arith}
 use mathlib.Core.List.{List, []}
 use mathlib.Core.Path.{◌≡◌, ap, ◌∙◌, subst, subst₂}
+use Rattle.std.specs.Prelude.{Result, Ok, Err}
 use lib.ListN.{length, take, drop, length-take, length-drop}
 use Rattle.clock.specs.Said.{refusal, stated}
 use Rattle.clock.specs.declared.Refusal as declared_refusal
@@ -20,8 +21,6 @@ use Rattle.paper.proofs.Sheets.Checks.{placed}
 use Rattle.paper.proofs.Stands.{sheet_stands}
 use Rattle.sheet.specs.Said.{Where, Reads}
 use Rattle.sheet.specs.declared.Contents as declared_contents
-use Rattle.sheet.specs.declared.Reading as declared_reading
-use Rattle.sheet.specs.declared.Reading.TheVariants as code
 
 -- The sheet b is accepted with these terms, its list `size` bytes from `at` on, and so many values; its events stand in w', which held w before.
 pub record Accepted (b : List ℕ) (w w' : Work) (t : Terms) (at size carried : ℕ) : Type 0 where
@@ -72,13 +71,13 @@ module _ {b : List ℕ} {w w' : Work} {t : Terms} {at size carried : ℕ} (s : A
   lent_stands = subst₂ (λ (t : Terms) (l : List ℕ). Stands t l w w') s.terms lent_list s.stands
 
 -- By the case of what the reader answers.
-module _ {r : declared_reading.Reading} where
+module _ {r : Result declared_contents.Contents declared_refusal.Refusal} where
   pub accepted :
-      (b : List ℕ) (w : Work) {w' : Work} {c : declared_contents.Contents} → r ≡ code.Done c → Reads b w r w' × Where b r
+      (b : List ℕ) (w : Work) {w' : Work} {c : declared_contents.Contents} → r ≡ Ok c → Reads b w r w' × Where b r
       → Accepted b w w' (stated c.terms) c.offset c.size c.carried
-  accepted b w {w'} e h = let (reads, lies) = subst (λ (x : declared_reading.Reading). Reads b w x w' × Where b x) e h in read_done reads lies
+  accepted b w {w'} e h = let (reads, lies) = subst (λ (x : Result declared_contents.Contents declared_refusal.Refusal). Reads b w x w' × Where b x) e h in read_done reads lies
 
   pub refuses :
-      (b : List ℕ) (w : Work) {w' : Work} {given : declared_refusal.Refusal} → r ≡ code.Refused given → Reads b w r w' × Where b r
+      (b : List ℕ) (w : Work) {w' : Work} {given : declared_refusal.Refusal} → r ≡ Err given → Reads b w r w' × Where b r
       → (refused (refusal given), w') ≡ reading b w
-  refuses b w {w'} e h = subst (λ (x : declared_reading.Reading). Reads b w x w') e h.0
+  refuses b w {w'} e h = subst (λ (x : Result declared_contents.Contents declared_refusal.Refusal). Reads b w x w') e h.0

@@ -1,11 +1,9 @@
 -- The reader's checks in their order: past the header they are those of the strict course and, behind all of them, the recorded stamps.
-use Prim.Native.Nat.{ℕ, ◌+◌, ◌-◌, ◌%◌, ◌≤◌}
+use Prim.Native.Nat.{ℕ, ◌+◌, ◌%◌, ◌≤◌}
 use native.Mathlib.Omega.{arith}
 use mathlib.Core.Path.{◌≡◌, sym, ap, ap₂, ◌∙◌}
 use mathlib.Core.Logic.{◌≢◌}
-use mathlib.Core.Bool.{cond}
 use mathlib.Core.List.{List, [], ◌∷◌}
-use lib.Dec.{eqb}
 use lib.ListN.{length, take, drop, length-drop}
 use lib.Seq.{length-take-le}
 use borrow.Author.Tests.{eq-eqb, ne_eqb, le-ltb}
@@ -25,6 +23,7 @@ use Rattle.paper.proofs.Ample.{list_then, header_then}
 use Rattle.paper.proofs.Laws.Refused.{is_refused, after_done}
 use Rattle.paper.proofs.Lent.{lamports_few}
 use Rattle.paper.proofs.RoundTrip.{list_early}
+use Rattle.paper.proofs.Sheets.Checks.{is_done}
 use Rattle.paper.proofs.Sheets.Header.{Header, header_says}
 use Rattle.paper.proofs.Stands.{list_stands}
 use Rattle.clock.specs.Said.{stated}
@@ -180,25 +179,19 @@ module _ (b : List ℕ) (ok : header_checks b 0 ≡ 0) where
           let q = y ∙ numbers_are in
           (λ i. ((done (record { terms = t; list = l i; carried = carried_is i }), p i), q i)) ∙ sym (accepts early late r) ∙ left_is
 
--- The reader over the parts that the header told, each cut from its offset to its end.
+-- The reader over the parts that the header told.
 module _ (b : List ℕ) {p : Parts} (ok : header_checks b 0 ≡ 0) (e : p ≡ parts_in b) where
-  abbrev pub cut : Part → List ℕ
-  cut q = take (q.offset + q.size - q.offset) (drop q.offset b)
+  abbrev cut : Part → List ℕ
+  cut q = take q.size (drop q.offset b)
 
-  cut_is : (q : Part) → cut q ≡ take q.size (drop q.offset b)
-  cut_is q = let z : q.offset + q.size - q.offset ≡ q.size = omega arith in rw z
-
-  pub terms_are : stated p.terms ≡ terms_in b
+  terms_are : stated p.terms ≡ terms_in b
   terms_are = ap (λ (q : Parts). stated q.terms) e
 
-  pub listed_is : take p.list.size (drop p.list.offset b) ≡ list_in b
-  listed_is = ap (λ (q : Parts). take q.list.size (drop q.list.offset b)) e
+  list_is : cut p.list ≡ list_in b
+  list_is = ap (λ (q : Parts). cut q.list) e
 
-  pub list_is : cut p.list ≡ list_in b
-  list_is = cut_is p.list ∙ listed_is
-
-  pub stamps_are : cut p.stamps ≡ stamps_in b
-  stamps_are = cut_is p.stamps ∙ ap (λ (q : Parts). take q.stamps.size (drop q.stamps.offset b)) e
+  stamps_are : cut p.stamps ≡ stamps_in b
+  stamps_are = ap (λ (q : Parts). cut q.stamps) e
 
   pub parts_inside : (p.list.offset + p.list.size ≤ length b) × (p.stamps.offset + p.stamps.size ≤ length b) × (length b ≤ 40960)
   parts_inside = let h = head b ok in rw e (h.list_inside.1, h.stamps_inside.1, h.size.1)
@@ -218,27 +211,25 @@ module _ (b : List ℕ) {p : Parts} (ok : header_checks b 0 ≡ 0) (e : p ≡ pa
       pub slots_lent : Slots (cut p.list) w'.masks w'.values
       slots_lent = rw list_is (slots_there (stands b ok w numbers (h ∙ same_course)))
 
-      module _ {given : Refusal} (found : given ≡ stamps_refused 0 (slot_pieces (cut p.list) w'.masks w'.values) (cut p.stamps)) where
-        same_stamps : given ≡ recorded b ok
-        same_stamps =
-            found
-            ∙ ap₂ (λ (ts : List (List ℕ)) (s : List ℕ). stamps_refused 0 ts s) (rw list_is (pieces_there (stands b ok w numbers (h ∙ same_course)))) stamps_are
+      same_stamps : stamps_refused 0 (slot_pieces (cut p.list) w'.masks w'.values) (cut p.stamps) ≡ recorded b ok
+      same_stamps = ap₂ (λ (ts : List (List ℕ)) (s : List ℕ). stamps_refused 0 ts s) (rw list_is (pieces_there (stands b ok w numbers (h ∙ same_course)))) stamps_are
 
-        -- What is left of the slots once the stamps were compared.
-        module _ {w'' : Work} {numbers'' : List ℕ}
-            (left : w'' ≡ cond (eqb given.number 0) w' (wiped p.terms.processes (how_many (cut p.list)) w'))
-            (kept : numbers'' ≡ cond (eqb given.number 0) numbers' (wiped_slots (how_many (cut p.list)) numbers')) where
-          pub recorded_differ : given.number ≢ 0 → ◌≡◌ {A = Ends} ((refused given, w''), numbers'') (reading_lamport b w numbers)
-          recorded_differ z =
-              stamps_differ b ok w numbers (h ∙ same_course) same_stamps z
-              ((rw (ne_eqb given.number 0 z) at left) ∙ ap₂ (λ (n : ℕ) (l : List ℕ). wiped n (how_many l) w') (ap (λ (u : Terms). u.processes) terms_are) list_is)
-              ((rw (ne_eqb given.number 0 z) at kept) ∙ ap (λ (l : List ℕ). wiped_slots (how_many l) numbers') list_is)
+      -- What is left of the slots once the stamps were compared.
+      module _ {w'' : Work} {numbers'' : List ℕ} where
+        pub recorded_differ :
+            {given : Refusal} → refused given ≡ outcome (stamps_refused 0 (slot_pieces (cut p.list) w'.masks w'.values) (cut p.stamps)) (tt {0})
+            → w'' ≡ wiped p.terms.processes (how_many (cut p.list)) w' → numbers'' ≡ wiped_slots (how_many (cut p.list)) numbers'
+            → ◌≡◌ {A = Ends} ((refused given, w''), numbers'') (reading_lamport b w numbers)
+        recorded_differ {given} d left kept =
+            let (z, q) = is_refused _ (tt {0}) given d in
+            stamps_differ b ok w numbers (h ∙ same_course) (q ∙ same_stamps) (rw (← q) at z)
+            (left ∙ ap₂ (λ (n : ℕ) (l : List ℕ). wiped n (how_many l) w') (ap (λ (u : Terms). u.processes) terms_are) list_is)
+            (kept ∙ ap (λ (l : List ℕ). wiped_slots (how_many l) numbers') list_is)
 
-          pub recorded_agree :
-              given.number ≡ 0
-              → ◌≡◌ {A = Ends}
-              ((done (record { terms = stated p.terms; list = take p.list.size (drop p.list.offset b); carried = v }), w''), numbers'')
-              (reading_lamport b w numbers)
-          recorded_agree z =
-              (λ i. ((done (record { terms = terms_are i; list = take p.list.size (drop p.list.offset b); carried = v }), w''), numbers''))
-              ∙ stamps_agree b ok w numbers (h ∙ same_course) same_stamps z (rw z at left) (rw z at kept) listed_is
+        pub recorded_agree :
+            done (tt {0}) ≡ outcome (stamps_refused 0 (slot_pieces (cut p.list) w'.masks w'.values) (cut p.stamps)) (tt {0}) → w'' ≡ w' → numbers'' ≡ numbers'
+            → ◌≡◌ {A = Ends} ((done (record { terms = stated p.terms; list = cut p.list; carried = v }), w''), numbers'') (reading_lamport b w numbers)
+        recorded_agree d left kept =
+            let z = ((is_done _ (tt {0}) (tt {0})).0 (sym d)).0 in
+            (λ i. ((done (record { terms = terms_are i; list = cut p.list; carried = v }), w''), numbers''))
+            ∙ stamps_agree b ok w numbers (h ∙ same_course) same_stamps z left kept list_is

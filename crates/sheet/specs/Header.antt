@@ -1,11 +1,11 @@
 -- What a header says, and the paper's outcome for each case of the answer.
-use Rattle.std.specs.Prelude.{ℕ, ◌+◌, ◌%◌, ◌<◌, ◌^◌, Bool, ◌||◌, not, List, ◌≡◌, eqb, ltb, length}
+use Rattle.std.specs.Prelude.{ℕ, ◌+◌, ◌%◌, ◌<◌, ◌^◌, Bool, ◌||◌, not, List, ◌≡◌, Result, Ok, Err, eqb, ltb, length}
+use Rattle.clock.specs.Check.{number_of}
+use Rattle.clock.specs.declared.check.Check.{Check}
 use Rattle.paper.specs.Bytes.{byte, four}
 use Rattle.paper.specs.Reading.{outside, shared}
 use Rattle.paper.specs.Refusals.{first, Outcome, of_call, refused, done}
 use Rattle.paper.specs.Sheet.{processes_in, version_in, list_offset, list_size, stamps_offset, stamps_size}
-use Rattle.sheet.specs.declared.header.Heading.TheVariants as code
-use Rattle.sheet.specs.declared.header.Heading.{Heading}
 use Rattle.sheet.specs.declared.header.Part.{Part}
 use Rattle.sheet.specs.declared.header.Parts.{Parts}
 
@@ -41,10 +41,10 @@ parts_in b =
       stamps = record { offset = stamps_offset b; size = stamps_size b };
     }
 
--- A refusal number, or the parts.
-abbrev pub headed : Heading → Outcome Parts
-headed (code.Refused r) = refused (of_call r)
-headed (code.Done p) = done p
+-- The check that refuses, or the parts.
+abbrev pub headed : Result Parts Check → Outcome Parts
+headed (Err c) = refused (of_call (number_of c))
+headed (Ok p) = done p
 
 -- The offset and the size that stand at k, each of four bytes.
 pub record Placed (b : List ℕ) (k : ℕ) (p : Part) : Type 0 where

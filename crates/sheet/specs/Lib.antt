@@ -1,3 +1,4 @@
 pub mod Header
 pub mod Slots
+pub mod Held
 pub mod Said

@@ -1,20 +1,30 @@
 // The header of a sheet: checks 1 to 7 in their order, and where the two parts lie.
-ghost use Rattle.std.specs.Prelude.{◌≡◌, ◌||◌, ◌-◌, ◌≤◌, ◌<◌, ◌^◌, ltb};
-ghost use Rattle.paper.specs.Reading.{shared, header_checks};
+ghost use Rattle.std.specs.Prelude.{◌≡◌, ◌+◌, ◌≤◌, ◌<◌, ◌^◌, length, take, drop};
+ghost use Rattle.clock.specs.Check.{checked};
+ghost use Rattle.paper.specs.Reading.{outside, shared, header_checks};
 ghost use Rattle.paper.specs.Refusals.{of_call, outcome};
-ghost use Rattle.paper.specs.Terms.{wrong_count};
-ghost use Rattle.sheet.specs.Header.{headed, in_turn, parts_in, Placed, Lies};
+ghost use Rattle.sheet.specs.Header.{headed, parts_in, Placed, Lies};
 ghost use Rattle.sheet.specs.Header.{wrong_length, wrong_letters, wrong_version, wrong_zeros, wrong_list, wrong_stamps};
 
-use clock::{Clock, Terms};
+use clock::{Check, Terms, is_wrong_count};
 use octets::read::{byte_at, four_at, two_at};
-use octets::width::{wide, wide16, wide32};
+use octets::width::Narrow;
 
 // A part of a sheet: it begins at `offset` and has `size` bytes.
 #[derive(Clone, Copy)]
 pub(crate) struct Part {
     pub offset: usize,
     pub size: usize,
+}
+
+impl Part {
+    // The bytes of the part.
+    pub(crate) fn of(self, sheet: &[u8]) -> &[u8]
+        requires { self.offset + self.size ≤ length sheet.now }
+        ensures { result.now ≡ take self.size (drop self.offset sheet.now) }
+    {
+        &sheet[self.offset..self.offset + self.size]
+    }
 }
 
 // The terms, the event list and the stamps.
@@ -25,20 +35,14 @@ pub(crate) struct Parts {
     pub stamps: Part,
 }
 
-#[derive(Clone, Copy)]
-pub(crate) enum Heading {
-    Refused(u8),
-    Done(Parts),
-}
-
 // The part whose offset and size stand at k.
 fn part_at(s: &[u8], k: usize) -> Part
     requires { k ≤ 16 }
     ensures { Placed s.now k result }
 {
     Part {
-        offset: wide32(four_at(s, k)),
-        size: wide32(four_at(s, k + 4)),
+        offset: four_at(s, k).wide(),
+        size: four_at(s, k + 4).wide(),
     }
 }
 
@@ -47,9 +51,9 @@ fn lay(sheet: &[u8]) -> Parts
 {
     Parts {
         terms: Terms {
-            version: wide16(two_at(sheet, 4)),
-            processes: wide(byte_at(sheet, 3)),
-            present: wide(byte_at(sheet, 6)),
+            version: two_at(sheet, 4).wide(),
+            processes: byte_at(sheet, 3).wide(),
+            present: byte_at(sheet, 6).wide(),
         },
         list: part_at(sheet, 8),
         stamps: part_at(sheet, 16),
@@ -77,13 +81,6 @@ fn is_wrong_version(s: &[u8]) -> bool
     two_at(s, 4) != 1
 }
 
-// 4.
-pub(crate) fn is_wrong_count(n: usize) -> bool
-    ensures { result ≡ wrong_count n }
-{
-    (n < 1) | (Clock::PROCESSES < n)
-}
-
 // 5: bytes 6 and 7 are zero.
 fn is_wrong_zeros(s: &[u8]) -> bool
     ensures { result ≡ wrong_zeros s.now }
@@ -91,25 +88,18 @@ fn is_wrong_zeros(s: &[u8]) -> bool
     (byte_at(s, 6) != 0) | (byte_at(s, 7) != 0)
 }
 
-// What is left of a sheet from an offset on.
-fn room(len: usize, offset: usize) -> usize
-    ensures { result ≡ len - offset }
+// Whether a part does not lie in the bytes from 24 on: offset and size are never added.
+fn is_outside(len: usize, p: Part) -> bool
+    ensures { result ≡ outside len p.offset p.size }
 {
-    if offset <= len { len - offset } else { 0 }
-}
-
-// Whether a part does not lie in the bytes from 24 on, `left` being what is left from its offset on: offset and size are never added.
-fn is_outside(len: usize, left: usize, p: Part) -> bool
-    ensures { result ≡ (ltb p.offset 24 || ltb len p.offset || ltb left p.size) }
-{
-    (p.offset < 24) | (len < p.offset) | (left < p.size)
+    (p.offset < 24) | (len < p.offset) | (len.saturating_sub(p.offset) < p.size)
 }
 
 // 6.
 fn is_wrong_list(len: usize, p: Part) -> bool
     ensures { result ≡ wrong_list len p }
 {
-    is_outside(len, room(len, p.offset), p) | (p.size % 8 != 0) | (4096 < p.size)
+    is_outside(len, p) | (p.size % 8 != 0) | (4096 < p.size)
 }
 
 // Whether two parts have a byte in common; the sums of two 32-bit numbers fit.
@@ -125,61 +115,44 @@ fn is_wrong_stamps(len: usize, list: Part, stamps: Part) -> bool
     requires { (list.offset < 2 ^ 32) × (list.size < 2 ^ 32) × (stamps.offset < 2 ^ 32) × (stamps.size < 2 ^ 32) }
     ensures { result ≡ wrong_stamps len list stamps }
 {
-    is_outside(len, room(len, stamps.offset), stamps) | is_shared(list, stamps)
+    is_outside(len, stamps) | is_shared(list, stamps)
 }
 
-// The number of the first check that holds, or 0.
-fn first_of(b1: bool, b2: bool, b3: bool, b4: bool, b5: bool, b6: bool, b7: bool) -> u8
-    ensures { result ≡ in_turn b1 b2 b3 b4 b5 b6 b7 0 }
-{
-    if b1 {
-        return 1;
-    }
-    if b2 {
-        return 2;
-    }
-    if b3 {
-        return 3;
-    }
-    if b4 {
-        return 4;
-    }
-    if b5 {
-        return 5;
-    }
-    if b6 {
-        return 6;
-    }
-    if b7 {
-        return 7;
-    }
-    0
-}
-
-fn refusal(sheet: &[u8], p: Parts) -> u8
+// 1 to 7 in their order.
+fn check(sheet: &[u8], p: Parts) -> Result<(), Check>
     requires { Lies sheet.now p }
-    ensures { result ≡ header_checks sheet.now 0 }
+    ensures { checked result ≡ header_checks sheet.now 0 }
 {
     let len = sheet.len();
-    first_of(
-        is_wrong_length(sheet),
-        is_wrong_letters(sheet),
-        is_wrong_version(sheet),
-        is_wrong_count(p.terms.processes),
-        is_wrong_zeros(sheet),
-        is_wrong_list(len, p.list),
-        is_wrong_stamps(len, p.list, p.stamps),
-    )
+    if is_wrong_length(sheet) {
+        return Err(Check::SheetLength);
+    }
+    if is_wrong_letters(sheet) {
+        return Err(Check::Letters);
+    }
+    if is_wrong_version(sheet) {
+        return Err(Check::Version);
+    }
+    if is_wrong_count(p.terms.processes) {
+        return Err(Check::Count);
+    }
+    if is_wrong_zeros(sheet) {
+        return Err(Check::Zeros);
+    }
+    if is_wrong_list(len, p.list) {
+        return Err(Check::List);
+    }
+    if is_wrong_stamps(len, p.list, p.stamps) {
+        return Err(Check::Stamps);
+    }
+    Ok(())
 }
 
 // 1 to 7, or where the parts lie.
-pub(crate) fn head(sheet: &[u8]) -> Heading
+pub(crate) fn head(sheet: &[u8]) -> Result<Parts, Check>
     ensures { headed result ≡ outcome (of_call (header_checks sheet.now 0)) (parts_in sheet.now) }
 {
     let p = lay(sheet);
-    let number = refusal(sheet, p);
-    if number != 0 {
-        return Heading::Refused(number);
-    }
-    Heading::Done(p)
+    check(sheet, p)?;
+    Ok(p)
 }

@@ -4,15 +4,17 @@
 mod header;
 mod reader;
 pub mod stamps;
+pub mod walk;
 
+ghost use Rattle.std.specs.Prelude.{◌≡◌, ◌+◌, ◌≤◌, length, take, drop};
 ghost use Rattle.course.specs.Said.{work};
 ghost use Rattle.sheet.specs.Said.{Reads, Numbers, Where};
 
 use clock::{Refusal, Terms};
-use header::Heading;
+use header::Part;
 
 // What a sheet says: its terms, where its event list lies, and how many values the stamps carry.
-#[derive(Clone, Copy)]
+#[derive(Clone, Copy, Debug, PartialEq, Eq)]
 pub struct Contents {
     pub terms: Terms,
     pub offset: usize,
@@ -20,11 +22,18 @@ pub struct Contents {
     pub carried: usize,
 }
 
-// What reading a sheet answers.
-#[derive(Clone, Copy)]
-pub enum Reading {
-    Refused(Refusal),
-    Done(Contents),
+impl Contents {
+    // The event list, in the sheet that was read.
+    pub fn list(self, sheet: &[u8]) -> &[u8]
+        requires { self.offset + self.size ≤ length sheet.now }
+        ensures { result.now ≡ take self.size (drop self.offset sheet.now) }
+    {
+        Part {
+            offset: self.offset,
+            size: self.size,
+        }
+        .of(sheet)
+    }
 }
 
 // Reading: 1 to 7, 9, events in order, then stamps; with the Lamport numbers of an accepted sheet's events.
@@ -34,19 +43,22 @@ pub fn read_lamport(
     masks: &mut [u32],
     values: &mut [u16],
     lamports: &mut [u16],
-) -> Reading
+) -> Result<Contents, Refusal>
     ensures numbers { Numbers sheet.now (work clocks.old masks.old values.old) lamports.old
         result (work clocks.new masks.new values.new) lamports.new }
     ensures place { Where sheet.now result }
 {
-    match header::head(sheet) {
-        Heading::Refused(number) => Reading::Refused(Refusal::of_call(number)),
-        Heading::Done(p) => reader::judged(sheet, p, clocks, masks, values, lamports),
-    }
+    let parts = header::head(sheet)?;
+    reader::judged(sheet, parts, clocks, masks, values, lamports)
 }
 
 // Reading where no Lamport numbers are asked for.
-pub fn read(sheet: &[u8], clocks: &mut [u16], masks: &mut [u32], values: &mut [u16]) -> Reading
+pub fn read(
+    sheet: &[u8],
+    clocks: &mut [u16],
+    masks: &mut [u32],
+    values: &mut [u16],
+) -> Result<Contents, Refusal>
     ensures reads { Reads sheet.now (work clocks.old masks.old values.old)
         result (work clocks.new masks.new values.new) }
     ensures place { Where sheet.now result }

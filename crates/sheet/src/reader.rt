@@ -1,17 +1,19 @@
 // The events of a sheet whose header is right, then its recorded stamps.
-ghost use Rattle.std.specs.Prelude.{◌≡◌, cond, eqb};
-ghost use Rattle.clock.specs.Said.{refusal};
+ghost use Rattle.std.specs.Prelude.{◌≡◌, cond, is_ok};
+ghost use Rattle.clock.specs.Said.{told};
 ghost use Rattle.paper.specs.Event.{how_many};
 ghost use Rattle.paper.specs.Reading.{header_checks, stamps_refused};
+ghost use Rattle.paper.specs.Refusals.{outcome};
 ghost use Rattle.course.specs.Said.{work, wiped, wiped_slots};
 ghost use Rattle.sheet.specs.Header.{parts_in};
 ghost use Rattle.sheet.specs.Slots.{slot_pieces, Slots};
 ghost use Rattle.sheet.specs.Said.{Numbers, Where};
 
+use super::Contents;
 use super::header::Parts;
-use super::{Contents, Reading};
+use super::stamps::compare;
+use super::walk::Stamps;
 use clock::Refusal;
-use course::Judged;
 
 // Recorded stamps compared: a refusal sets the slots named for the events of the list to 0.
 fn recorded(
@@ -22,16 +24,15 @@ fn recorded(
     masks: &mut [u32],
     values: &mut [u16],
     lamports: &mut [u16],
-) -> Refusal
+) -> Result<(), Refusal>
     requires { Slots list.now masks.old values.old }
-    ensures { (refusal result ≡ stamps_refused 0 (slot_pieces list.now masks.old values.old) stamps.now)
+    ensures { (told (λ u. u) result ≡ outcome (stamps_refused 0 (slot_pieces list.now masks.old values.old) stamps.now) (tt {0}))
         × (work clocks.new masks.new values.new
-        ≡ cond (eqb (refusal result).number 0) (work clocks.old masks.old values.old)
-        (wiped n (how_many list.now) (work clocks.old masks.old values.old)))
-        × (lamports.new ≡ cond (eqb (refusal result).number 0) lamports.old (wiped_slots (how_many list.now) lamports.old)) }
+        ≡ cond (is_ok result) (work clocks.old masks.old values.old) (wiped n (how_many list.now) (work clocks.old masks.old values.old)))
+        × (lamports.new ≡ cond (is_ok result) lamports.old (wiped_slots (how_many list.now) lamports.old)) }
 {
-    let r = super::stamps::compare(list, masks, values, stamps);
-    if r.number != 0 {
+    let r = compare(Stamps::of(list, masks, values), stamps);
+    if r.is_err() {
         course::clear(n, list.len() / 8, clocks, masks, values);
         course::clear_lamports(list.len() / 8, lamports);
     }
@@ -46,39 +47,27 @@ pub(crate) fn judged(
     masks: &mut [u32],
     values: &mut [u16],
     lamports: &mut [u16],
-) -> Reading
+) -> Result<Contents, Refusal>
     requires { (header_checks sheet.now 0 ≡ 0) × (p ≡ parts_in sheet.now) }
     ensures numbers { Numbers sheet.now (work clocks.old masks.old values.old) lamports.old
         result (work clocks.new masks.new values.new) lamports.new }
     ensures place { Where sheet.now result }
 {
-    let terms = p.terms;
-    let offset = p.list.offset;
-    let size = p.list.size;
-    let list = &sheet[offset..offset + size];
-    match course::strict_lamport(terms, list, clocks, masks, values, lamports) {
-        Judged::Refused(r) => Reading::Refused(r),
-        Judged::Done(carried) => {
-            let at = p.stamps.offset;
-            let stamps = &sheet[at..at + p.stamps.size];
-            let r = recorded(
-                terms.processes,
-                list,
-                stamps,
-                clocks,
-                masks,
-                values,
-                lamports,
-            );
-            if r.number != 0 {
-                return Reading::Refused(r);
-            }
-            Reading::Done(Contents {
-                terms: terms,
-                offset: offset,
-                size: size,
-                carried: carried,
-            })
-        }
-    }
+    let list = p.list.of(sheet);
+    let carried = course::strict_lamport(p.terms, list, clocks, masks, values, lamports)?;
+    recorded(
+        p.terms.processes,
+        list,
+        p.stamps.of(sheet),
+        clocks,
+        masks,
+        values,
+        lamports,
+    )?;
+    Ok(Contents {
+        terms: p.terms,
+        offset: p.list.offset,
+        size: p.list.size,
+        carried,
+    })
 }

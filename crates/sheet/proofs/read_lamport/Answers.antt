@@ -1,5 +1,7 @@
 -- Reading: a header that refuses refuses the sheet and writes nothing; a right one is told by its parts.
 use mathlib.Core.Path.{sym, ◌∙◌}
+use Rattle.std.proofs.lemmas.Result.{err_from_is_err_and}
+use Rattle.clock.specs.Check.{number_of}
 use Rattle.paper.proofs.Sheets.Checks.{is_done}
 use Rattle.paper.specs.Reading.{header_checks}
 use Rattle.paper.specs.Refusals.{of_call}
@@ -11,11 +13,12 @@ use Rattle.sheet.proofs.read_lamport.Goals as goal
 pub judged-requires : goal.judged-requires
 judged-requires c =
     let b = c.args.sheet.now in
-    let q = (is_done (of_call (header_checks b 0)) (parts_in b) c.in-Done.p).0 (sym c.in-Done.ensures) in
+    let q = (is_done (of_call (header_checks b 0)) (parts_in b) c.in_ok-parts.parts).0 (sym c.in_ok-parts.ensures) in
     (q.0, sym q.1)
 
-pub returns-in-Refused : goal.returns-in-Refused
-returns-in-Refused c =
+pub returns-in_err-parts-clause-numbers : goal.returns-in_err-parts-clause-numbers
+returns-in_err-parts-clause-numbers c =
     let b = c.args.sheet.now in
-    let q = is_refused (parts_in b) c.in-Refused.number (header_checks b 0) c.in-Refused.ensures in
-    record { numbers = head_refused b q.0 (λ z. q.1 (q.0 ∙ z)) c.of_call.ensures; place = tt }
+    let p = err_from_is_err_and c.from_residual.result c.from_residual.ensures.1 in
+    let q = is_refused (parts_in b) (number_of c.in_err-parts.field-0.0) (header_checks b 0) c.in_err-parts.ensures in
+    rw p.1 (head_refused b q.0 (λ z. q.1 (q.0 ∙ z)) p.2)

@@ -1,50 +1,30 @@
 -- The reader past its header: what refuses the list refuses the sheet, and then the recorded stamps do, by the laws of `InOrder`.
-use mathlib.Core.Path.{ap}
-use native.Mathlib.Omega.{arith}
-use Prim.Native.Nat.{◌+◌, ◌≤◌}
-use lib.ListN.{length}
+use Rattle.std.proofs.lemmas.Result.{err_from_is_err_and}
 use Rattle.sheet.proofs.InOrder.{parts_inside, course_refused, slots_lent, recorded_differ, recorded_agree}
 use Rattle.sheet.proofs.reader.judged.Goals as goal
-use Rattle.sheet.proofs.reader.judged.Goals.{Start}
 
--- The parts lie in the sheet.
-inside :
-    (c : goal.Start)
-    → let a = c.args in
-    (a.p.list.offset + a.p.list.size ≤ length a.sheet.now) × (a.p.stamps.offset + a.p.stamps.size ≤ length a.sheet.now)
-    × (length a.sheet.now ≤ 40960)
-inside c = parts_inside c.args.sheet.now c.requires.0 c.requires.1
+pub of-list-requires : goal.of-list-requires
+of-list-requires c = (parts_inside c.args.sheet.now c.requires.0 c.requires.1).0
 
-pub overflow_add-list : goal.overflow_add-list
-overflow_add-list c = let i = inside (goal.at.overflow_add-list c).Start in omega (arith, i.0, i.2)
+pub of-requires : goal.of-requires
+of-requires c = (parts_inside c.args.sheet.now c.requires.0 c.requires.1).1
 
-pub slice_bounds-list-end : goal.slice_bounds-list-end
-slice_bounds-list-end c = let i = inside (goal.at.slice_bounds-list-end c).Start in omega (arith, i.0)
+pub recorded-requires : goal.recorded-requires
+recorded-requires c =
+    rw c.of-list.ensures (slots_lent c.args.sheet.now c.requires.0 c.requires.1 _ _ (rw c.of-list.ensures at c.in_ok-carried.ensures))
 
-pub overflow_add-stamps : goal.overflow_add-stamps
-overflow_add-stamps c = let i = inside (goal.at.overflow_add-stamps c).Start in omega (arith, i.1, i.2)
+pub returns-in_err-carried-clause-numbers : goal.returns-in_err-carried-clause-numbers
+returns-in_err-carried-clause-numbers c =
+    let p = err_from_is_err_and c.from_residual.result c.from_residual.ensures.1 in
+    rw (p.1, p.2) (course_refused c.args.sheet.now c.requires.0 c.requires.1 _ _ (rw c.of-list.ensures at c.in_err-carried.ensures))
 
-pub slice_bounds-stamps-end : goal.slice_bounds-stamps-end
-slice_bounds-stamps-end c = let i = inside (goal.at.slice_bounds-stamps-end c).Start in omega (arith, i.1)
+pub returns-in_err-recorded-clause-numbers : goal.returns-in_err-recorded-clause-numbers
+returns-in_err-recorded-clause-numbers c =
+    let p = err_from_is_err_and c.from_residual-in_err-recorded.result c.from_residual-in_err-recorded.ensures.1 in
+    let r = rw (c.of-list.ensures, c.of.ensures) at c.in_err-recorded.ensures in
+    rw (p.1, p.2) (recorded_differ c.args.sheet.now c.requires.0 c.requires.1 _ _ (rw c.of-list.ensures at c.in_ok-carried.ensures) r.0 r.1 r.2)
 
-pub recorded-r-requires : goal.recorded-r-requires
-recorded-r-requires c = slots_lent c.args.sheet.now c.requires.0 c.requires.1 _ _ c.in-Done.ensures
-
-pub returns-then-r-ne0 : goal.returns-then-r-ne0
-returns-then-r-ne0 c =
-    let r = c.recorded-r.ensures in
-    record {
-      numbers = recorded_differ c.args.sheet.now c.requires.0 c.requires.1 _ _ c.in-Done.ensures r.0 r.1 r.2 c.if-r-ne0.true;
-      place = tt;
-    }
-
-pub returns-in-Refused : goal.returns-in-Refused
-returns-in-Refused c = record { numbers = course_refused c.args.sheet.now c.requires.0 c.requires.1 _ _ c.in-Refused.ensures; place = tt }
-
-pub returns-else-r-ne0 : goal.returns-else-r-ne0
-returns-else-r-ne0 c =
-    let r = c.recorded-r.ensures in
-    record {
-      numbers = recorded_agree c.args.sheet.now c.requires.0 c.requires.1 _ _ c.in-Done.ensures r.0 r.1 r.2 c.if-r-ne0.false;
-      place = (ap (λ q. q.list.offset) c.requires.1, ap (λ q. q.list.size) c.requires.1);
-    }
+pub returns-clause-numbers : goal.returns-clause-numbers
+returns-clause-numbers c =
+    let r = rw (c.of-list.ensures, c.of.ensures) at c.in_ok-recorded.ensures in
+    recorded_agree c.args.sheet.now c.requires.0 c.requires.1 _ _ (rw c.of-list.ensures at c.in_ok-carried.ensures) r.0 r.1 r.2

@@ -1,9 +1,9 @@
-use Prim.Native.Nat.{◌-◌}
-use Rattle.sheet.proofs.Compared.{Walked}
+use Rattle.std.proofs.Common.{◌≡◌}
+use Rattle.std.specs.Iterator.Adapters.{enumerate_count, enumerate_source}
+use Rattle.paper.specs.Reading.{stamps_refused}
+use Rattle.sheet.specs.Held.{left}
 use Rattle.sheet.proofs.stamps.compare.Given as goal
 
 abbrev pub invariant-loop-i : goal.invariant-loop-i
-invariant-loop-i l = Walked l.list l.masks l.values l.stamps l.at l.place l.i
-
-abbrev pub decreases-loop-i : goal.decreases-loop-i
-decreases-loop-i l = l.m - l.i
+invariant-loop-i l =
+    stamps_refused 0 (left l.fn.stamps) l.fn.bytes ≡ stamps_refused (enumerate_count l.i-iterator) (left (enumerate_source l.i-iterator)) l.rest

@@ -1,12 +1,7 @@
-use Prim.Native.Nat.{◌≤◌, ◌-◌}
-use mathlib.Core.Path.{◌≡◌}
-use lib.ListN.{drop}
-use Rattle.paper.specs.Reading.{begins}
-use Rattle.sheet.specs.Slots.{value_bytes}
+use Rattle.std.proofs.Common.{◌≡◌, ℕ, ◌*◌, ◌<◌, ◌↔◌, get_or}
+use Rattle.std.specs.Prelude.{IsTrue}
+use Rattle.paper.specs.Bytes.{two}
 use Rattle.sheet.proofs.stamps.same_values.Given as goal
 
 abbrev pub invariant-loop-j : goal.invariant-loop-j
-invariant-loop-j l = (l.j ≤ l.k) × (l.same ≡ begins (value_bytes l.values l.place l.j) (drop l.at l.s))
-
-abbrev pub decreases-loop-j : goal.decreases-loop-j
-decreases-loop-j l = l.k - l.j
+invariant-loop-j l = IsTrue l.same ↔ ((k : ℕ) → k < l.j → two l.bytes (2 * k) ≡ get_or l.values k 0)
