@@ -1,6 +1,6 @@
 -- Comparing on a sheet: what refuses the sheet refuses the question, and on an accepted one it ends as on its list.
-use Prim.Native.Nat.{ℕ, ◌+◌, ◌-◌}
-use mathlib.Core.Path.{◌≡◌, sym, subst₂}
+use Prim.Native.Nat.{ℕ}
+use mathlib.Core.Path.{◌≡◌, sym, subst₂, ◌∙◌}
 use mathlib.Core.List.{List, []}
 use lib.ListN.{take, drop}
 use Rattle.paper.specs.Buffers.{Work}
@@ -9,7 +9,7 @@ use Rattle.paper.specs.Reading.{read_of, reading_checks, reading}
 use Rattle.paper.specs.Refusals.{Refusal, Outcome, refused}
 use Rattle.paper.specs.Sheet.{terms_in, list_in}
 use Rattle.paper.specs.Terms.{Terms}
-use Rattle.sheet.proofs.Accepted.{Accepted, lent_list}
+use Rattle.sheet.proofs.Accepted.{Accepted}
 use Rattle.order.specs.Rest.{Past, Compares}
 use Rattle.order.proofs.Asked.{comparison_refused}
 
@@ -18,15 +18,16 @@ pub compare_refused :
 unfolding reading comparing_sheet
 compare_refused b w i j h = comparison_refused (reading_checks b w []) (read_of (terms_in b) (list_in b)) (terms_in b) (list_in b) w i j h
 
+-- The list l is the one of the accepted sheet.
 module _ {b : List ℕ} {w w' : Work} {t : Terms} {at size carried : ℕ} (s : Accepted b w w' t at size carried) where
-  -- The list as it is lent.
-  abbrev pub lent : List ℕ
-  lent = take (at + size - at) (drop at b)
-
   pub past : Past (reading_checks b w []) (terms_in b) (list_in b) w w'
   past = record { early = s.early; late = s.late; stands = s.stands }
 
-  pub compare_done : {i j : ℕ} {r : Outcome ℕ} {w'' : Work} → Compares t lent w' i j r w'' → (r, w'') ≡ comparing_sheet b w i j
-  unfolding comparing_sheet
-  compare_done {i} {j} {r} {w''} h =
-      (subst₂ (λ (t : Terms) (l : List ℕ). Compares t l w' i j r w'') (sym s.terms) (sym (lent_list s)) h).ends (reading_checks b w []) w past
+  module _ {l : List ℕ} (e : l ≡ take size (drop at b)) where
+    pub lent : list_in b ≡ l
+    lent = s.list ∙ sym e
+
+    pub compare_done : {i j : ℕ} {r : Outcome ℕ} {w'' : Work} → Compares t l w' i j r w'' → (r, w'') ≡ comparing_sheet b w i j
+    unfolding comparing_sheet
+    compare_done {i} {j} {r} {w''} h =
+        (subst₂ (λ (t : Terms) (l : List ℕ). Compares t l w' i j r w'') (sym s.terms) (sym lent) h).ends (reading_checks b w []) w past

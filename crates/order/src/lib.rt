@@ -11,8 +11,6 @@ ghost use Rattle.order.specs.Judge.{not_both, row_verdict};
 ghost use Rattle.order.specs.Rest.{Compares};
 
 use clock::{Check, Position, Refusal, Terms, Verdict, is_wrong_count};
-use course::Judged;
-use sheet::Reading;
 
 // Whether one of two positions is not below a count.
 pub fn is_past(count: usize, first: Position, second: Position) -> bool
@@ -83,10 +81,8 @@ pub fn compare(
     ensures { (compared result, work clocks.new masks.new values.new)
         ≡ comparing (stated terms) list.now (work clocks.old masks.old values.old) first.0 second.0 }
 {
-    match course::strict(terms, list, clocks, masks, values) {
-        Judged::Refused(r) => Err(r),
-        Judged::Done(_) => comparison(terms, list, clocks, masks, values, first, second),
-    }
+    course::strict(terms, list, clocks, masks, values)?;
+    comparison(terms, list, clocks, masks, values, first, second)
 }
 
 // The verdict on two events of a sheet.
@@ -101,13 +97,7 @@ pub fn compare_sheet(
     ensures { (compared result, work clocks.new masks.new values.new)
         ≡ comparing_sheet sheet.now (work clocks.old masks.old values.old) first.0 second.0 }
 {
-    match sheet::read(sheet, clocks, masks, values) {
-        Reading::Refused(r) => Err(r),
-        Reading::Done(c) => {
-            let terms = c.terms;
-            let from = c.offset;
-            let list = &sheet[from..from + c.size];
-            comparison(terms, list, clocks, masks, values, first, second)
-        }
-    }
+    let read = sheet::read(sheet, clocks, masks, values)?;
+    let list = read.list(sheet);
+    comparison(read.terms, list, clocks, masks, values, first, second)
 }
