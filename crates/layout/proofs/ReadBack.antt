@@ -19,24 +19,24 @@ use Rattle.paper.proofs.RoundTrip.{round_trip}
 use Rattle.paper.proofs.Sheets.Checks.{room}
 use Rattle.sheet.specs.Said.{read_as, Reads}
 use Rattle.layout.specs.Said.{Writes}
-use Rattle.sheet.specs.declared.Reading as declared_read
-use Rattle.sheet.specs.declared.Reading.TheVariants as reader
-use Rattle.layout.specs.declared.Wrote.TheVariants as writer
+use Rattle.std.specs.Prelude.{Result, Ok, Err}
+use Rattle.clock.specs.declared.Refusal.{Refusal}
+use Rattle.sheet.specs.declared.Contents.{Contents}
 
 -- The answer r accepts the sheet b, and says these terms and this list.
-abbrev pub Accepts : Terms → List ℕ → List ℕ → declared_read.Reading → Type 0
-Accepts terms list b (reader.Refused r) = ⊥
-Accepts terms list b (reader.Done c) = (stated c.terms ≡ terms) × (take c.size (drop c.offset b) ≡ list)
+abbrev pub Accepts : Terms → List ℕ → List ℕ → Result Contents Refusal → Type 0
+Accepts terms list b (Err r) = ⊥
+Accepts terms list b (Ok c) = (stated c.terms ≡ terms) × (take c.size (drop c.offset b) ≡ list)
 
-accepts : (terms : Terms) (list b : List ℕ) (r : declared_read.Reading) → read_as b r ≡ done (read_of terms list) → Accepts terms list b r
+accepts : (terms : Terms) (list b : List ℕ) (r : Result Contents Refusal) → read_as b r ≡ done (read_of terms list) → Accepts terms list b r
 unfolding read_of
-accepts terms list b (reader.Refused r) e = let z : ◌≡◌ {A = ℕ} 0 1 = cc in omega arith
-accepts terms list b (reader.Done c) e =
+accepts terms list b (Err r) e = let z : ◌≡◌ {A = ℕ} 0 1 = cc in omega arith
+accepts terms list b (Ok c) e =
     let same : ◌≡◌ {A = Read} (record { terms = stated c.terms; list = take c.size (drop c.offset b); carried = c.carried }) (read_of terms list) = cc in
     (ap (λ (x : Read). x.terms) same, ap (λ (x : Read). x.list) same)
 
 module _ (terms : Terms) (list : List ℕ) (w : Work) (out : List ℕ) {w' : Work} {out' : List ℕ} {events bytes : ℕ} (none : terms.present ≡ 0)
-    (h : Writes terms list w out (writer.Done events bytes) w' out') where
+    (h : Writes terms list w out (Ok (record { events = events; bytes = bytes })) w' out') where
   abbrev answer : Written
   answer = record { events = events; bytes = bytes }
 
@@ -49,7 +49,7 @@ module _ (terms : Terms) (list : List ℕ) (w : Work) (out : List ℕ) {w' : Wor
       (ap (λ (x : (Outcome Written × Work) × List ℕ). take bytes x.1) h ∙ front, back, all)
 
   pub read_back :
-      (v : Work) {v' : Work} (r : declared_read.Reading) → short terms.processes (how_many list) v ≡ false → Reads (take bytes out') v r v'
+      (v : Work) {v' : Work} (r : Result Contents Refusal) → short terms.processes (how_many list) v ≡ false → Reads (take bytes out') v r v'
       → Accepts terms list (take bytes out') r × (events ≡ how_many list)
   read_back v r enough g =
       let (front, back, all) = trip in

@@ -1,71 +1,52 @@
 -- The stamps stored one behind another.
-use Prim.Native.Nat.{ℕ, suc, ◌+◌, ◌-◌, ◌^◌, ◌≤◌, ◌<◌}
-use mathlib.Core.List.{List, flatten}
-use mathlib.Core.Path.{◌≡◌, refl, sym}
-use native.Mathlib.Numerals.{add-one}
+use Prim.Native.Nat.{ℕ, ◌+◌, ◌^◌, ◌<◌, ◌≤◌}
+use mathlib.Core.List.{List, [], ◌∷◌, flatten, flat_map}
+use mathlib.Core.Path.{◌≡◌, ap}
 use native.Mathlib.Omega.{arith}
-use lib.Count.{ones}
 use lib.ListN.{length, get_or}
-use Rattle.clock.specs.Event.{kind_at}
+use Rattle.std.proofs.lemmas.List.{take_all}
 use Rattle.octets.specs.Appended.{Appended}
 use Rattle.octets.proofs.Appended.{none, long, join}
-use Rattle.paper.specs.Buffers.{all_ones, values_begin}
 use Rattle.paper.specs.Bytes.{two_bytes, four_bytes}
-use Rattle.paper.specs.Event.{how_many}
 use Rattle.paper.specs.Sheet.{stamp_bytes}
-use Rattle.sheet.specs.Slots.{value_bytes, slot_stamp, kind_piece, pieces_from, Slots}
-use Rattle.sheet.proofs.Slots.{one_more, begin_more, values_there}
-use Rattle.layout.specs.Sizes.{slot_stamps}
+use Rattle.sheet.specs.Slots.{value_bytes}
+use Rattle.sheet.proofs.Slots.{one_more}
 
 -- One value more.
 pub value_more :
-    {l m n : List ℕ} {at to r : ℕ} (vs : List ℕ) (p j x : ℕ) → p + j < length vs → x ≡ get_or vs (p + j) 0 → Appended l at (value_bytes vs p j) to m
-    → Appended m to (two_bytes x) r n → Appended l at (value_bytes vs p (j + 1)) r n
-value_more vs p j x h e a b = rw (one_more vs p j h, ← e) (join a b)
+    {l m n : List ℕ} {at to r : ℕ} (vs : List ℕ) (j x : ℕ) → j < length vs → x ≡ get_or vs j 0 → Appended l at (value_bytes vs 0 j) to m
+    → Appended m to (two_bytes x) r n → Appended l at (value_bytes vs 0 (j + 1)) r n
+value_more vs j x h e a b =
+    let k : get_or vs (0 + j) 0 ≡ x = rw e (ap (λ i. get_or vs i 0) (omega arith)) in
+    rw (one_more vs 0 j (omega arith), k) (join a b)
 
--- The mask, then the values: as many as it has ones.
+pub all_values : (vs : List ℕ) (j : ℕ) → length vs ≤ j → value_bytes vs 0 j ≡ flat_map two_bytes vs
+all_values vs j h = ap (flat_map two_bytes) (take_all j vs h)
+
+-- The mask, then the values.
 pub stored_stamp :
-    {l o n : List ℕ} {at to r : ℕ} (m v k : ℕ) (vs : List ℕ) (p : ℕ) → v ≡ m → k ≡ ones m → Appended l at (four_bytes v) to o
-    → Appended o to (value_bytes vs p k) r n → Appended l at (slot_stamp m vs p) r n
-unfolding slot_stamp stamp_bytes
-stored_stamp m v k vs p e f a b = join (rw e at a) (rw f at b)
+    {l o n : List ℕ} {at to r : ℕ} (m v : ℕ) (vs : List ℕ) → v ≡ m → Appended l at (four_bytes v) to o → Appended o to (flat_map two_bytes vs) r n
+    → Appended l at (stamp_bytes (record { mask = m; values = vs })) r n
+unfolding stamp_bytes
+stored_stamp m v vs e a b = join (rw e at a) b
 
--- At the head of the loop over all events: the event at i is next, and what is stored from now on behind `to` completes the stamps.
-pub record Putting (l list masks vs : List ℕ) (at to place i : ℕ) (out : List ℕ) : Type 0 where
-  pub within : i ≤ how_many list
-  pub begin : place ≡ values_begin masks i
+-- At the head of the loop over all events: what is stored of the pieces ps that are left, from now on behind `to`, completes the stamps.
+pub record Putting (l : List ℕ) (at : ℕ) (all ps : List (List ℕ)) (to : ℕ) (out : List ℕ) : Type 0 where
   pub lent : length out < 2 ^ 64
   pub reached : to < 2 ^ 64
-  pub rest :
-      (r : ℕ) (x : List ℕ) → Appended out to (flatten (pieces_from list masks vs (how_many list - i) i)) r x
-      → Appended l at (slot_stamps list masks vs) r x
+  pub rest : (r : ℕ) (x : List ℕ) → Appended out to (flatten ps) r x → Appended l at (flatten all) r x
 
-module _ {l list masks vs : List ℕ} (slots : Slots list masks vs) {at : ℕ} where
-  pub put_start : length l < 2 ^ 64 → at < 2 ^ 64 → Putting l list masks vs at at 0 0 l
-  unfolding all_ones
-  put_start short small =
-      let e : how_many list - 0 ≡ how_many list = omega arith in
-      record { within = omega arith; begin = refl; lent = short; reached = small; rest = λ r x a. rw e at a }
+pub put_start : {l : List ℕ} {at : ℕ} {all ps : List (List ℕ)} → all ≡ ps → length l < 2 ^ 64 → at < 2 ^ 64 → Putting l at all ps at l
+put_start e short small = record { lent = short; reached = small; rest = λ r x a. rw e a }
 
-  module _ {to place i : ℕ} {out : List ℕ} (w : Putting l list masks vs at to place i out) where
-    pub put_fits : i < how_many list → place + ones (get_or masks i 0) ≤ length vs
-    put_fits h = rw w.begin (values_there list masks vs slots i h)
+module _ {l : List ℕ} {at to : ℕ} {all ps : List (List ℕ)} {out : List ℕ} (w : Putting l at all ps to out) where
+  pub put_more : {p : List ℕ} {qs : List (List ℕ)} {r : ℕ} {x : List ℕ} → ps ≡ p ∷ qs → Appended out to p r x → Putting l at all qs r x
+  unfolding flatten
+  put_more e a = record { lent = omega (arith, long a, w.lent); reached = omega (arith, a.place); rest = λ q y b. w.rest q y (rw e (join a b)) }
 
-    pub put_more :
-        {r carried kind : ℕ} {x : List ℕ} → i < how_many list → carried ≡ ones (get_or masks i 0) → kind ≡ kind_at list i
-        → Appended out to (kind_piece kind (get_or masks i 0) vs place) r x
-        → Putting l list masks vs at r (place + carried) (i + 1) x
-    unfolding pieces_from flatten
-    put_more {r} {carried} {kind} {x} h g q a =
-        let e : how_many list - i ≡ suc (how_many list - suc i) = omega arith in
-        record {
-          within = omega arith;
-          begin = rw (w.begin, g) (sym (begin_more masks i (omega (arith, slots.each_mask))));
-          lent = omega (arith, long a, w.lent);
-          reached = omega (arith, a.place);
-          rest = λ p y b. w.rest p y (rw (e, ← w.begin, ← q) (join a (rw add-one at b)));
-        }
+  pub put_nothing : {qs : List (List ℕ)} → ps ≡ [] ∷ qs → Putting l at all qs to out
+  put_nothing e = put_more e (none out to w.lent w.reached)
 
-    pub put_end : how_many list ≤ i → Appended l at (slot_stamps list masks vs) to out
-    unfolding pieces_from flatten
-    put_end h = let e : how_many list - i ≡ 0 = omega arith in w.rest to out (rw e (none out to w.lent w.reached))
+  pub put_end : ps ≡ [] → Appended l at (flatten all) to out
+  unfolding flatten
+  put_end e = w.rest to out (rw e (none out to w.lent w.reached))

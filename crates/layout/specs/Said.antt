@@ -1,7 +1,8 @@
 -- The paper's outcomes for each case of what is answered here.
-use Rattle.std.specs.Prelude.{ℕ, ◌+◌, cond, List, ◌≡◌, ltb, length}
+use Rattle.std.specs.Prelude.{ℕ, ◌+◌, cond, List, ◌≡◌, Result, ltb, length}
 use Rattle.std.proofs.lemmas.List.Edits.{sets}
-use Rattle.clock.specs.Said.{refusal}
+use Rattle.clock.specs.Said.{told}
+use Rattle.clock.specs.declared.Refusal.{Refusal}
 use Rattle.course.specs.Said.{wiped}
 use Rattle.paper.specs.Buffers.{Work}
 use Rattle.paper.specs.Event.{how_many}
@@ -10,15 +11,13 @@ use Rattle.paper.specs.Questions.{Written}
 use Rattle.paper.specs.Refusals.{Outcome, refused, done, of_call}
 use Rattle.paper.specs.Terms.{Terms}
 use Rattle.layout.specs.Sizes.{slot_size, slot_written}
-use Rattle.layout.specs.declared.Wrote as declared_wrote
-use Rattle.layout.specs.declared.Wrote.TheVariants as writing
+use Rattle.layout.specs.declared.Written as declared
 
-abbrev pub wrote : declared_wrote.Wrote → Outcome Written
-wrote (writing.Refused r) = refused (refusal r)
-wrote (writing.Done m k) = done (record { events = m; bytes = k })
+abbrev pub wrote : Result declared.Written Refusal → Outcome Written
+wrote r = told (λ w. record { events = w.events; bytes = w.bytes }) r
 
 -- What the writer promises: from the terms, the list, the work buffers w and the output out it gives r and leaves w' and out'.
-abbrev pub Writes : Terms → List ℕ → Work → List ℕ → declared_wrote.Wrote → Work → List ℕ → Type 0
+abbrev pub Writes : Terms → List ℕ → Work → List ℕ → Result declared.Written Refusal → Work → List ℕ → Type 0
 Writes terms list w out r w' out' = ((wrote r, w'), out') ≡ questions.writing terms list w out
 
 -- What is left to check and to write of a list whose stamps stand in the work buffers w.

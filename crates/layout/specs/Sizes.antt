@@ -5,6 +5,8 @@ use Rattle.clock.specs.Event.{kind_at}
 use Rattle.paper.specs.Event.{how_many}
 use Rattle.paper.specs.Sheet.{header}
 use Rattle.paper.specs.Terms.{Terms}
+use Rattle.sheet.specs.Held.{left}
+use Rattle.sheet.specs.declared.walk.Stamps.{Stamps}
 use Rattle.sheet.specs.Slots.{kind_size, slot_pieces}
 
 module _ (list masks : List ℕ) where
@@ -16,9 +18,15 @@ module _ (list masks : List ℕ) where
   abbrev pub slot_size : ℕ
   slot_size = size_from (how_many list) 0
 
--- The stamps of all sends, and the sheet that is written.
+-- The stamps of all sends, those that are left, and the sheet that is written: with its stamps, and from the slots.
 abbrev pub slot_stamps : List ℕ → List ℕ → List ℕ → List ℕ
 slot_stamps list masks vs = flatten (slot_pieces list masks vs)
 
+abbrev pub left_bytes : Stamps → List ℕ
+left_bytes s = flatten (left s)
+
+abbrev pub sheet_of : Terms → List ℕ → List ℕ → List ℕ
+sheet_of terms list stamps = header terms (length list) (length stamps) ++ (list ++ stamps)
+
 abbrev pub slot_written : Terms → List ℕ → List ℕ → List ℕ → List ℕ
-slot_written terms list masks vs = header terms (length list) (length (slot_stamps list masks vs)) ++ (list ++ slot_stamps list masks vs)
+slot_written terms list masks vs = sheet_of terms list (slot_stamps list masks vs)

@@ -8,13 +8,12 @@ ghost use Rattle.course.specs.Said.{work};
 ghost use Rattle.layout.specs.Said.{Writes};
 
 use clock::{Refusal, Terms};
-use course::Judged;
 
-// What writing a sheet answers: how many events, and how many bytes are written.
-#[derive(Clone, Copy)]
-pub enum Wrote {
-    Refused(Refusal),
-    Done(usize, usize),
+// What is written: how many events, and how many bytes.
+#[derive(Clone, Copy, Debug, PartialEq, Eq)]
+pub struct Written {
+    pub events: usize,
+    pub bytes: usize,
 }
 
 // Writing: 3, 4, 8, 9, events in order, 21; the events at 24, the stamps straight after.
@@ -25,12 +24,10 @@ pub fn write(
     masks: &mut [u32],
     values: &mut [u16],
     out: &mut [u8],
-) -> Wrote
+) -> Result<Written, Refusal>
     ensures { Writes (stated terms) list.now (work clocks.old masks.old values.old) out.old
         result (work clocks.new masks.new values.new) out.new }
 {
-    match course::strict(terms, list, clocks, masks, values) {
-        Judged::Refused(r) => Wrote::Refused(r),
-        Judged::Done(_) => store::written(terms, list, clocks, masks, values, out),
-    }
+    course::strict(terms, list, clocks, masks, values)?;
+    store::written(terms, list, clocks, masks, values, out)
 }

@@ -1,70 +1,51 @@
 // A sheet written from a list and the stamps in the work buffers: each function stores its bytes from `at` on and gives the place behind them.
-ghost use Rattle.std.specs.Prelude.{◌≡◌, ◌++◌, ◌∷◌, [], ◌+◌, ◌*◌, ◌≤◌, ◌<◌, length};
-ghost use Rattle.std.specs.Int.Count.{ones};
+ghost use Rattle.std.specs.Prelude.{◌≡◌, ◌++◌, ◌∷◌, [], ◌+◌, ◌≤◌, ◌<◌, Some, flat_map, length};
 ghost use Rattle.paper.specs.Bytes.{two_bytes, four_bytes, text};
 ghost use Rattle.paper.specs.Event.{how_many};
 ghost use Rattle.paper.specs.Sheet.{header};
 ghost use Rattle.clock.specs.Said.{stated};
 ghost use Rattle.octets.specs.Appended.{Appended};
-ghost use Rattle.sheet.specs.Slots.{value_bytes, slot_stamp, kind_piece, Slots};
-ghost use Rattle.layout.specs.Sizes.{slot_size, slot_stamps, slot_written};
+ghost use Rattle.sheet.specs.Held.{piece_of};
+ghost use Rattle.sheet.specs.Slots.{Slots};
+ghost use Rattle.layout.specs.Sizes.{slot_size, left_bytes, sheet_of};
 ghost use Rattle.course.specs.Said.{work};
 ghost use Rattle.layout.specs.Said.{wrote, laying};
 
-use super::Wrote;
-use clock::event::{SEND, kind_at};
-use clock::{Position, Refusal, Terms};
+use super::Written;
+use clock::event::kind_at;
+use clock::{Check, Position, Refusal, Terms};
 use octets::store::{put, put_all, put_four, put_two};
-use octets::width::{wide16, wide32};
-use sheet::stamps::{ones_in, piece_size};
+use octets::width::Narrow;
+use sheet::stamps::piece_size;
+use sheet::walk::{Stamp, Stamps};
 
-// k values from `place` on.
-fn put_values(out: &mut [u8], at: usize, values: &[u16], place: usize, k: usize) -> usize
-    requires { place + k ≤ length values.now }
-    ensures { Appended out.old at (value_bytes values.now place k) result out.new }
+// The mask, and behind it the values.
+fn put_stamp(out: &mut [u8], at: usize, stamp: Stamp) -> usize
+    ensures { Appended out.old at (piece_of (Some stamp.entry)) result out.new }
+{
+    let to = put_four(out, at, stamp.mask.wide());
+    put_values(out, to, stamp.values)
+}
+
+fn put_values(out: &mut [u8], at: usize, values: &[u16]) -> usize
+    ensures { Appended out.old at (flat_map two_bytes values.now) result out.new }
 {
     let mut to = at;
-    let mut j: usize = 0;
-    while j < k {
-        to = put_two(out, to, wide16(values[place + j]));
-        j += 1;
+    for v in values {
+        to = put_two(out, to, v.wide());
     }
     to
 }
 
-fn put_stamp(out: &mut [u8], at: usize, mask: u32, values: &[u16], place: usize) -> usize
-    requires { place + ones mask ≤ length values.now }
-    ensures { Appended out.old at (slot_stamp mask values.now place) result out.new }
-{
-    let to = put_four(out, at, wide32(mask));
-    put_values(out, to, values, place, ones_in(mask))
-}
-
-// What an event of this kind has among the stamps.
-fn put_piece(out: &mut [u8], at: usize, kind: u8, mask: u32, values: &[u16], place: usize) -> usize
-    requires { place + ones mask ≤ length values.now }
-    ensures { Appended out.old at (kind_piece kind mask values.now place) result out.new }
-{
-    if kind != SEND {
-        return at;
-    }
-    put_stamp(out, at, mask, values, place)
-}
-
 // The stamps of all sends.
-fn put_pieces(out: &mut [u8], at: usize, list: &[u8], masks: &[u32], values: &[u16]) -> usize
-    requires { Slots list.now masks.now values.now }
-    ensures { Appended out.old at (slot_stamps list.now masks.now values.now) result out.new }
+fn put_stamps(out: &mut [u8], at: usize, stamps: Stamps) -> usize
+    ensures { Appended out.old at (left_bytes stamps.entry) result out.new }
 {
-    let m = list.len() / 8;
     let mut to = at;
-    let mut place: usize = 0;
-    let mut i: usize = 0;
-    while i < m {
-        let mask = masks[i];
-        to = put_piece(out, to, kind_at(list, Position(i)), mask, values, place);
-        place += ones_in(mask);
-        i += 1;
+    for stamp in stamps {
+        if let Some(s) = stamp {
+            to = put_stamp(out, to, s);
+        }
     }
     to
 }
@@ -105,12 +86,9 @@ pub(crate) fn stamps_size(list: &[u8], masks: &[u32]) -> usize
     requires { (how_many list.now ≤ length masks.now) × (length list.now ≤ 4096) }
     ensures { (result ≡ slot_size list.now masks.now) × (result ≤ 34816) }
 {
-    let m = list.len() / 8;
-    let mut size: usize = 0;
-    let mut i: usize = 0;
-    while i < m {
+    let mut size = 0;
+    for i in 0..list.len() / 8 {
         size += piece_size(kind_at(list, Position(i)), masks[i]);
-        i += 1;
     }
     size
 }
@@ -120,17 +98,15 @@ pub(crate) fn put_sheet(
     out: &mut [u8],
     terms: Terms,
     list: &[u8],
-    masks: &[u32],
-    values: &[u16],
+    stamps: Stamps,
     stamped: usize,
 ) -> usize
-    requires { (terms.processes < 256) × Slots list.now masks.now values.now × (length list.now ≤ 4096)
-        × (stamped ≡ slot_size list.now masks.now) }
-    ensures { Appended out.old 0 (slot_written (stated terms) list.now masks.now values.now) result out.new }
+    requires { (terms.processes < 256) × (length list.now ≤ 4096) × (stamped ≡ length (left_bytes stamps)) }
+    ensures { Appended out.old 0 (sheet_of (stated terms) list.now (left_bytes stamps.entry)) result out.new }
 {
     let a = put_header(out, terms, list.len(), stamped);
     let b = put_all(out, a, list);
-    put_pieces(out, b, list, masks, values)
+    put_stamps(out, b, stamps)
 }
 
 // 21, or the sheet of a list whose stamps stand in the work buffers.
@@ -141,7 +117,7 @@ pub(crate) fn written(
     masks: &mut [u32],
     values: &mut [u16],
     out: &mut [u8],
-) -> Wrote
+) -> Result<Written, Refusal>
     requires { (terms.processes < 256) × Slots list.now masks.old values.old × (length list.now ≤ 4096) }
     ensures { ((wrote result, work clocks.new masks.new values.new), out.new)
         ≡ laying (stated terms) list.now (work clocks.old masks.old values.old) out.old }
@@ -150,8 +126,11 @@ pub(crate) fn written(
     let size = 24 + list.len() + stamped;
     if out.len() < size {
         course::clear(terms.processes, list.len() / 8, clocks, masks, values);
-        return Wrote::Refused(Refusal::of_call(21));
+        return Err(Refusal::from(Check::Output));
     }
-    put_sheet(out, terms, list, masks, values, stamped);
-    Wrote::Done(list.len() / 8, size)
+    put_sheet(out, terms, list, Stamps::of(list, masks, values), stamped);
+    Ok(Written {
+        events: list.len() / 8,
+        bytes: size,
+    })
 }

@@ -5,7 +5,4 @@ use Rattle.layout.specs.Sizes.{size_from, slot_size}
 use Rattle.layout.proofs.store.stamps_size.Given as goal
 
 abbrev pub invariant-loop-i : goal.invariant-loop-i
-invariant-loop-i l = (l.i ≤ how_many l.list) × (l.size + size_from l.list l.masks (how_many l.list - l.i) l.i ≡ slot_size l.list l.masks) × (l.size ≤ 68 * l.i)
-
-abbrev pub decreases-loop-i : goal.decreases-loop-i
-decreases-loop-i l = l.m - l.i
+invariant-loop-i l = (l.size + size_from l.list l.masks (how_many l.list - l.i) l.i ≡ slot_size l.list l.masks) × (l.size ≤ 68 * l.i)
