@@ -13,7 +13,6 @@ ghost use Rattle.pupil.specs.Said.{marked};
 
 use clock::{Check, Position, Refusal};
 use octets::read::two_at;
-use sheet::Reading;
 
 // What marking answers: the total, and of how many lines.
 #[derive(Clone, Copy, Debug, PartialEq, Eq)]
@@ -115,19 +114,7 @@ pub fn mark(
     if (lines.len() % 6 != 0) | (1200 < lines.len()) {
         return Err(Refusal::from(Check::Lines));
     }
-    match sheet::read(sheet, clocks, masks, values) {
-        Reading::Refused(r) => Err(r),
-        Reading::Done(c) => {
-            let terms = c.terms;
-            marking(
-                terms.processes,
-                c.size / 8,
-                lines,
-                clocks,
-                masks,
-                values,
-                marks,
-            )
-        }
-    }
+    let read = sheet::read(sheet, clocks, masks, values)?;
+    let n = read.terms.processes;
+    marking(n, read.size / 8, lines, clocks, masks, values, marks)
 }

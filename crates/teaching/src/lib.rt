@@ -3,11 +3,11 @@
 
 mod path;
 
-ghost use Rattle.std.specs.Prelude.{◌≡◌, ℕ, ◌<◌, IfErr};
+ghost use Rattle.std.specs.Prelude.{◌≡◌, ℕ};
 ghost use Rattle.paper.specs.Buffers.{Work};
 ghost use Rattle.paper.specs.Questions.{chain_slots, chaining, chaining_sheet};
 ghost use Rattle.paper.specs.Stands.{Stands};
-ghost use Rattle.clock.specs.Check.{number_of, checked};
+ghost use Rattle.clock.specs.Check.{checked};
 ghost use Rattle.clock.specs.Said.{stated};
 ghost use Rattle.course.specs.Said.{work};
 ghost use Rattle.order.specs.Judge.{row_verdict};
@@ -15,9 +15,7 @@ ghost use Rattle.teaching.specs.Said.{chained};
 ghost use Rattle.teaching.specs.Rest.{says_before, late, Links};
 
 use clock::{Check, Position, Refusal, Terms, Verdict};
-use course::Judged;
 use path::Course;
-use sheet::Reading;
 
 // How many messages a chain between n processes has at most: with one process none.
 fn room(n: usize) -> usize
@@ -42,8 +40,7 @@ fn late(
     second: Position,
     slots: usize,
 ) -> Result<(), Check>
-    ensures number { checked result ≡ late n m clocks.now first.0 second.0 slots }
-    ensures some { IfErr result (λ c. 0 < number_of c) }
+    ensures { checked result ≡ late n m clocks.now first.0 second.0 slots }
 {
     if order::is_past(m, first, second) {
         return Err(Check::Position);
@@ -101,10 +98,8 @@ pub fn chain(
     ensures { ((chained result, work clocks.new masks.new values.new), out.new)
         ≡ chaining (stated terms) list.now (work clocks.old masks.old values.old) first.0 second.0 out.old }
 {
-    match course::strict(terms, list, clocks, masks, values) {
-        Judged::Refused(r) => Err(r),
-        Judged::Done(_) => linking(terms, list, clocks, masks, values, first, second, out),
-    }
+    course::strict(terms, list, clocks, masks, values)?;
+    linking(terms, list, clocks, masks, values, first, second, out)
 }
 
 // The chain from one event of a sheet to another.
@@ -120,13 +115,7 @@ pub fn chain_sheet(
     ensures { ((chained result, work clocks.new masks.new values.new), out.new)
         ≡ chaining_sheet sheet.now (work clocks.old masks.old values.old) first.0 second.0 out.old }
 {
-    match sheet::read(sheet, clocks, masks, values) {
-        Reading::Refused(r) => Err(r),
-        Reading::Done(c) => {
-            let terms = c.terms;
-            let from = c.offset;
-            let list = &sheet[from..from + c.size];
-            linking(terms, list, clocks, masks, values, first, second, out)
-        }
-    }
+    let read = sheet::read(sheet, clocks, masks, values)?;
+    let list = read.list(sheet);
+    linking(read.terms, list, clocks, masks, values, first, second, out)
 }
