@@ -1,8 +1,7 @@
 -- The percentage in its slot, and the two cases of what is left to do once a sheet is counted.
 use Prim.Native.Nat.{◌≤◌, ◌<◌}
-use native.Mathlib.Omega.{arith}
 use mathlib.Core.Path.{◌≡◌, refl, ap, ◌∙◌}
-use mathlib.Core.List.{List, [], ◌∷◌}
+use mathlib.Core.List.{List}
 use lib.Ieee.{Float}
 use lib.ListN.{length, set}
 use borrow.Author.Tests.{lt-ltb, le-ltb}
@@ -19,13 +18,6 @@ put_none s out e = rw e refl
 pub put_first : (s : Saving) (out : List Float) (x : Float) → s ≡ percent x → set out 0 x ≡ stored s out
 unfolding stored
 put_first s out x e = rw e refl
-
--- Without a slot nothing is stored.
-pub put_nowhere : (s : Saving) (out : List Float) → length out ≤ 0 → out ≡ stored s out
-unfolding stored
-put_nowhere no_messages out h = refl
-put_nowhere (percent x) [] h = refl
-put_nowhere (percent x) (y ∷ out) h = let z : ⊥ = omega arith in absurd z
 
 module _ (c : Counts) (w : Work) (out : List Float) where
   pub placing_late :

@@ -1,5 +1,6 @@
 -- Sends counted event by event in the bytes of a list, and that these are the sends of its accepted events.
-use Prim.Native.Nat.{ℕ, ◌+◌}
+use Prim.Native.Nat.{ℕ, ◌+◌, ◌≤◌}
+use mir.Val.{bool_byte}
 use native.Mathlib.Numerals.{add-one}
 use native.Mathlib.Omega.{arith}
 use mathlib.Core.Path.{◌≡◌, refl, sym, ap, ◌∙◌}
@@ -21,11 +22,15 @@ pub none_sent : (list : List ℕ) → 0 ≡ slot_sends list 0
 unfolding count
 none_sent list = refl
 
-pub sent_more : (list : List ℕ) (i k x : ℕ) → k ≡ slot_sends list i → x ≡ cond (is_send_at list i) 1 0 → k + x ≡ slot_sends list (i + 1)
+pub one_at_most : (b : Bool) → bool_byte b ≤ 1
+one_at_most true = omega arith
+one_at_most false = omega arith
+
+pub sent_more : (list : List ℕ) (i k x : ℕ) → k ≡ slot_sends list i → x ≡ bool_byte (is_send_at list i) → k + x ≡ slot_sends list (i + 1)
 unfolding count
 sent_more list i k x e f = rw (add-one, e, f) (go (is_send_at list i))
   where
-    go : (b : Bool) → slot_sends list i + cond b 1 0 ≡ cond b (slot_sends list i + 1) (slot_sends list i)
+    go : (b : Bool) → slot_sends list i + bool_byte b ≡ cond b (slot_sends list i + 1) (slot_sends list i)
     go true = refl
     go false = omega arith
 

@@ -1,5 +1,5 @@
 -- From reading to what is told of a sheet: what refuses the sheet refuses every question about it, and an accepted one has the counts of its events.
-use Prim.Native.Nat.{ℕ, ◌+◌, ◌-◌, ◌/◌}
+use Prim.Native.Nat.{ℕ, ◌/◌}
 use native.Mathlib.Omega.{arith}
 use mathlib.Core.Path.{◌≡◌, refl, sym, ap, ◌∙◌, subst}
 use mathlib.Core.Bool.{Bool, true, false, cond}
@@ -62,13 +62,12 @@ module _ (b : List ℕ) (w : Work) where
 
   -- The sends of an accepted sheet are counted in its bytes.
   pub count_done :
-      {w' : Work} {t : Terms} {at size carried : ℕ} → Accepted b w w' t at size carried → {s : ℕ}
-      → (let l = take (at + size - at) (drop at b) in s ≡ slot_sends l (how_many l))
+      {w' : Work} {t : Terms} {at size carried : ℕ} → Accepted b w w' t at size carried → {s : ℕ} {l : List ℕ} → l ≡ take size (drop at b)
+      → s ≡ slot_sends l (how_many l)
       → (done (record { processes = t.processes; events = size / 8; sends = s; carried = carried }), w') ≡ tallying b w
   unfolding tallying counts
-  count_done {w'} {t} {at} {size} {carried} a {s} e =
-      let long : at + size - at ≡ size = omega arith in
-      let l : take (at + size - at) (drop at b) ≡ list_in b = rw long (sym a.list) in
+  count_done {w'} {t} {at} {size} {carried} a {s} lent e =
+      let l = lent ∙ sym a.list in
       let sent : s ≡ sends cs = e ∙ ap (λ (x : List ℕ). slot_sends x (how_many x)) l ∙ sends_stand a.stands in
       let n : t.processes ≡ processes_in b = ap (λ (x : Terms). x.processes) (sym a.terms) in
       let events : size / 8 ≡ length cs = sym (all a.stands ∙ a.many) in

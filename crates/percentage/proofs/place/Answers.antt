@@ -1,16 +1,32 @@
 -- 21, or the percentage in its slot.
+use mathlib.Core.Path.{refl, sym, ap, ◌∙◌}
 use native.Mathlib.Omega.{arith}
+use borrow.Author.Tests.{eqb-true, eqb-false}
+use Prim.Native.Nat.{◌≤◌}
+use lib.ListN.{length}
 use Rattle.course.specs.Said.{work}
-use Rattle.percentage.specs.Said.{counts}
-use Rattle.percentage.proofs.Placed.{placing_late, placing_done}
+use Rattle.percentage.specs.Said.{counts, saving}
+use Rattle.percentage.proofs.Placed.{put_none, put_first, placing_late, placing_done}
 use Rattle.percentage.proofs.place.Goals as goal
+use Rattle.percentage.proofs.place.Goals.{Else-is_empty}
 
-pub returns-then-percent-lt1 : goal.returns-then-percent-lt1
-returns-then-percent-lt1 c =
+pub returns-then-is_empty : goal.returns-then-is_empty
+returns-then-is_empty c =
     let a = c.args in
-    placing_late (counts a.c) (work a.clocks.now a.masks.now a.values.now) a.percent.now (omega (arith, c.if-percent-lt1.true)) c.of_call.ensures c.clear.ensures
+    let none = eqb-true (length a.percent.now) 0 (sym c.is_empty.ensures ∙ c.if-is_empty.true) in
+    placing_late (counts a.c) (work a.clocks.now a.masks.now a.values.now) a.percent.now (omega arith) c.from.ensures c.clear.ensures
 
-pub returns : goal.returns
-returns c =
+some : (c : goal.Else-is_empty) → 1 ≤ length c.args.percent.now
+some c = let n = eqb-false (length c.args.percent.now) 0 (sym c.is_empty.ensures ∙ c.if-is_empty.false) in omega arith
+
+pub returns-in-Some : goal.returns-in-Some
+returns-in-Some c =
     let a = c.args in
-    placing_done (counts a.c) (work a.clocks.now a.masks.now a.values.now) a.percent.now (omega (arith, c.if-percent-lt1.false)) c.figure-s.ensures c.put.ensures
+    placing_done (counts a.c) (work a.clocks.now a.masks.now a.values.now) a.percent.now (some (goal.at.returns-in-Some c).Else-is_empty) c.in-Some.ensures
+    (put_first _ _ _ refl)
+
+pub returns-in_default : goal.returns-in_default
+returns-in_default c =
+    let a = c.args in
+    placing_done (counts a.c) (work a.clocks.now a.masks.now a.values.now) a.percent.now (some (goal.at.returns-in_default c).Else-is_empty) c.figure-saved.ensures
+    (put_none _ _ (ap saving c.in_default.is))
