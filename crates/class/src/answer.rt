@@ -11,28 +11,25 @@ use desk::PAGE;
 pub fn class_answer(terms: Terms, list: &[u8], out: &mut [u8; PAGE]) -> usize
     ensures { Printed out.old (class_answer (stated terms) list.now) result out.new }
 {
-    let mut clocks = [0u16; 16384];
-    let mut masks = [0u32; 512];
-    let mut values = [0u16; 16384];
+    let mut work = desk::WORK;
     let mut answers = [0u8; 512];
-    let c = course::class(
+    match course::class(
         terms,
         list,
-        &mut clocks,
-        &mut masks,
-        &mut values,
+        &mut work.clocks,
+        &mut work.masks,
+        &mut work.values,
         &mut answers,
-    );
-    match c {
-        Classed::Refused(r) => lines::refusal_text(r, out),
-        Classed::Done(k, v) => lines::class_text(
+    ) {
+        Err(r) => lines::refusal_text(r, out),
+        Ok(Classed { accepted, carried }) => lines::class_text(
             terms.processes,
             list,
             &answers,
-            &clocks,
-            &masks,
-            k,
-            v,
+            &work.clocks,
+            &work.masks,
+            accepted,
+            carried,
             out,
         ),
     }

@@ -9,7 +9,6 @@ ghost use Rattle.class.specs.Answer.{class_answer};
 mod answer;
 
 use clock::Terms;
-use number::Number;
 use std::io;
 use std::io::{Read, Write};
 
@@ -19,15 +18,13 @@ fn run<R: Read, W: Write>(terms: Terms, from: &mut R, to: &mut W) -> io::Result<
         Appends (W.contents to.old) (W.contents to.new) (class_answer (stated terms) list))) }
 {
     // One byte more than the longest list, so that a longer one is refused.
-    let mut list = [0u8; 4097];
-    let size = desk::read_full(from, &mut list)?;
-    let mut page = [0u8; desk::PAGE];
-    let length = answer::class_answer(terms, &list[..size], &mut page);
-    desk::print(to, &page, length)
+    desk::serve::<4097, _, _, _>(from, to, |list, page| {
+        answer::class_answer(terms, list, page)
+    })
 }
 
 fn main(rt: HostRuntime) -> io::Result<()> {
-    let Number::Is(n) = desk::argument(&rt, 1) else {
+    let Some(n) = desk::argument(&rt, 1) else {
         return eprintln!(rt; "usage: class PROCESSES < LIST");
     };
     run(Terms::plain(n), &mut rt.stdin(), &mut rt.stdout())

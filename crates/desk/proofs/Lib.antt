@@ -1,3 +1,4 @@
 pub mod Printed
 pub mod Longer
 mod Reading
+pub mod Served

@@ -1,10 +1,10 @@
 // What the programs share: the page on which each answer is written, what the arguments say, reading and printing.
 #![tactic(auto)]
 
-ghost use Rattle.std.specs.Prelude.{◌≡◌, ◌≢◌, ◌<◌, ◌≤◌, ◌↔◌, IfOk, IfSome, IsTrue, OnOk, codes, length, take};
+ghost use Rattle.std.specs.Prelude.{◌≡◌, ◌≢◌, ◌<◌, ◌≤◌, ◌^◌, ◌↔◌, IfOk, IfSome, IsTrue, OnOk, codes, length, take};
 ghost use Rattle.std.specs.Io.KnownBytes.{Appends, Consumes, Keeps};
+ghost use Rattle.desk.specs.Serving.{AnswersAt, PrintsAnswer};
 
-use number::Number;
 use std::env::{Env, FillError};
 use std::io;
 use std::io::{Read, Write};
@@ -13,33 +13,34 @@ use std::io::{Read, Write};
 pub const PAGE: usize = 500000;
 
 // The number that a program's argument says; none where it is missing or of more than 5 bytes.
-pub fn argument(env: &impl Env, i: usize) -> Number {
+pub fn argument(env: &impl Env, i: usize) -> Option<usize> {
     let mut text = [0u8; 5];
-    match env.arg(i, &mut text) {
-        Ok(n) => number::parse(&text[..n]),
-        Err(_) => Number::None,
-    }
+    let n = env.arg(i, &mut text).ok()?;
+    number::parse(&text[..n])
 }
 
-// The two positions that a question names, or that an argument is missing or wrong.
-#[derive(Clone, Copy)]
-pub enum Pair {
-    Of(usize, usize),
-    Missing,
+// The two positions that a question names; none where an argument is missing or wrong.
+pub fn positions(env: &impl Env) -> Option<(usize, usize)> {
+    Some((argument(env, 1)?, argument(env, 2)?))
 }
 
-pub fn positions(env: &impl Env) -> Pair {
-    let Number::Is(first) = argument(env, 1) else {
-        return Pair::Missing;
-    };
-    let Number::Is(second) = argument(env, 2) else {
-        return Pair::Missing;
-    };
-    Pair::Of(first, second)
+// The work buffers that each program lends: they are large enough for every list.
+#[derive(Drop)]
+pub struct Work {
+    pub clocks: [u16; 16384],
+    pub masks: [u32; 512],
+    pub values: [u16; 16384],
 }
+
+// As they are lent: all 0.
+pub const WORK: Work = Work {
+    clocks: [0; 16384],
+    masks: [0; 512],
+    values: [0; 16384],
+};
 
 // Which listing is asked for: no argument, the one word `lamport`, or something else.
-#[derive(Clone, Copy)]
+#[derive(Clone, Copy, Debug, PartialEq, Eq)]
 pub enum Wanted {
     Plain,
     Lamport,
@@ -80,6 +81,7 @@ pub fn read_full<R: Read>(from: &mut R, buf: &mut [u8]) -> io::Result<usize>
     ensures rest { IfOk result (λ n. Consumes (R.remaining from.old) (R.remaining from.new) (take n buf.new)) }
 {
     let mut done = 0;
+    // No method of a reader fills a buffer as far as the input goes.
     while done < buf.len() {
         let n = from.read(&mut buf[done..])?;
         if n == 0 {
@@ -99,6 +101,36 @@ pub fn print<W: Write>(to: &mut W, page: &[u8; PAGE], length: usize) -> io::Resu
         to.write_all(&page[..length])?;
     }
     Ok(())
+}
+
+// Reads an input of which N bytes are enough, and returns what `answer` gives of it, which writes on a page.
+pub fn answer_on<const N: usize, R: Read, T, F: FnOnce(&[u8], &mut [u8; PAGE]) -> T>(
+    from: &mut R,
+    page: &mut [u8; PAGE],
+    answer: F,
+) -> io::Result<T>
+    requires fits { N < 2 ^ 63 }
+    requires any { F.IsAlwaysCallable answer }
+    ensures { IfOk result (λ r. IfSome (R.remaining from.old) (λ all. AnswersAt F.FnOnce answer (take N all) page.old r page.new)) }
+{
+    let mut input = [0u8; N];
+    let size = read_full(from, &mut input)?;
+    Ok(answer(&input[..size], page))
+}
+
+// Reads an input of which N bytes are enough, and prints the text that `answer` writes of it.
+pub fn serve<const N: usize, R: Read, W: Write, F: FnOnce(&[u8], &mut [u8; PAGE]) -> usize>(
+    from: &mut R,
+    to: &mut W,
+    answer: F,
+) -> io::Result<()>
+    requires fits { N < 2 ^ 63 }
+    requires any { F.IsAlwaysCallable answer }
+    ensures { OnOk result (IfSome (R.remaining from.old) (λ all. PrintsAnswer F.FnOnce answer (take N all) (W.contents to.old) (W.contents to.new))) }
+{
+    let mut page = [0u8; PAGE];
+    let length = answer_on::<N, R, usize, F>(from, &mut page, answer)?;
+    print(to, &page, length)
 }
 
 #[cfg(test)]
@@ -136,37 +168,31 @@ mod tests {
     #[test]
     fn arguments(rt: HostRuntime) {
         let given = Given(&[b"compare", b"00012", b"000012", b"", b"1a", b"\xff"]);
-        assert!(rt; matches!(argument(&given, 1), Number::Is(12)));
+        assert_eq!(rt; argument(&given, 1), Some(12));
         for i in 2..7 {
-            assert!(rt; matches!(argument(&given, i), Number::None), "argument {i}");
+            assert_eq!(rt; argument(&given, i), None, "argument {i}");
         }
-        assert!(rt; matches!(positions(&given), Pair::Missing));
+        assert_eq!(rt; positions(&given), None);
         let given = Given(&[b"compare", b"3", b"07", b"more"]);
-        assert!(rt; matches!(positions(&given), Pair::Of(3, 7)));
+        assert_eq!(rt; positions(&given), Some((3, 7)));
     }
 
     #[test]
     fn listings(rt: HostRuntime) {
-        assert!(rt; matches!(listing_wanted(&Given(&[b"listing"])), Wanted::Plain));
-        assert!(rt;
-            matches!(
-                listing_wanted(&Given(&[b"listing", b"lamport"])),
-                Wanted::Lamport
-            )
+        assert_eq!(rt; listing_wanted(&Given(&[b"listing"])), Wanted::Plain);
+        assert_eq!(rt;
+            listing_wanted(&Given(&[b"listing", b"lamport"])),
+            Wanted::Lamport
         );
-        assert!(rt;
-            matches!(
-                listing_wanted(&Given(&[b"listing", b"lamport", b""])),
-                Wanted::Unknown
-            )
+        assert_eq!(rt;
+            listing_wanted(&Given(&[b"listing", b"lamport", b""])),
+            Wanted::Unknown
         );
-        assert!(rt;
-            matches!(
-                listing_wanted(&Given(&[b"listing", b"lamports"])),
-                Wanted::Unknown
-            )
+        assert_eq!(rt;
+            listing_wanted(&Given(&[b"listing", b"lamports"])),
+            Wanted::Unknown
         );
-        assert!(rt; matches!(listing_wanted(&Given(&[b"listing", b""])), Wanted::Unknown));
+        assert_eq!(rt; listing_wanted(&Given(&[b"listing", b""])), Wanted::Unknown);
     }
 
     // A reader that gives one byte at a time and then fails.
@@ -206,6 +232,18 @@ mod tests {
         print(&mut out, &[b'x'; PAGE], 3)?;
         print(&mut out, &[b'y'; PAGE], PAGE + 1)?;
         assert_eq!(rt; out.as_slice(), b"xxx".as_slice());
+        Ok(())
+    }
+
+    #[test]
+    fn serves(rt: HostRuntime) -> Result<(), Fail> {
+        let mut out = Vec::new(rt.alloc());
+        serve::<4, _, _, _>(&mut b"abcdef".as_slice(), &mut out, |input, page| {
+            page[0] = b'x';
+            input.len()
+        })?;
+        serve::<4, _, _, _>(&mut b"yz".as_slice(), &mut out, |input, _page| input.len())?;
+        assert_eq!(rt; out.as_slice(), b"x\0\0\0\0\0".as_slice());
         Ok(())
     }
 }

@@ -3,22 +3,18 @@ ghost use Rattle.lines.specs.Text.{Printed};
 ghost use Rattle.listing.specs.Answer.{listing_answer, listing_lamport_answer};
 
 use desk::PAGE;
-use sheet::Reading;
 
 // What `listing` prints of a sheet.
 pub fn listing_answer(sheet: &[u8], out: &mut [u8; PAGE]) -> usize
     ensures { Printed out.old (listing_answer sheet.now) result out.new }
 {
-    let mut clocks = [0u16; 16384];
-    let mut masks = [0u32; 512];
-    let mut values = [0u16; 16384];
-    let r = sheet::read(sheet, &mut clocks, &mut masks, &mut values);
-    match r {
-        Reading::Refused(r) => lines::refusal_text(r, out),
-        Reading::Done(c) => {
-            let from = c.offset;
-            let list = &sheet[from..from + c.size];
-            lines::listing_text(c.terms.processes, list, &clocks, &masks, c.carried, out)
+    let mut work = desk::WORK;
+    match sheet::read(sheet, &mut work.clocks, &mut work.masks, &mut work.values) {
+        Err(r) => lines::refusal_text(r, out),
+        Ok(c) => {
+            let n = c.terms.processes;
+            let list = &sheet[c.offset..c.offset + c.size];
+            lines::listing_text(n, list, &work.clocks, &work.masks, c.carried, out)
         }
     }
 }
@@ -27,21 +23,24 @@ pub fn listing_answer(sheet: &[u8], out: &mut [u8; PAGE]) -> usize
 pub fn listing_lamport_answer(sheet: &[u8], out: &mut [u8; PAGE]) -> usize
     ensures { Printed out.old (listing_lamport_answer sheet.now) result out.new }
 {
-    let mut clocks = [0u16; 16384];
-    let mut masks = [0u32; 512];
-    let mut values = [0u16; 16384];
+    let mut work = desk::WORK;
     let mut numbers = [0u16; 512];
-    let r = sheet::read_lamport(sheet, &mut clocks, &mut masks, &mut values, &mut numbers);
-    match r {
-        Reading::Refused(r) => lines::refusal_text(r, out),
-        Reading::Done(c) => {
-            let from = c.offset;
-            let list = &sheet[from..from + c.size];
+    match sheet::read_lamport(
+        sheet,
+        &mut work.clocks,
+        &mut work.masks,
+        &mut work.values,
+        &mut numbers,
+    ) {
+        Err(r) => lines::refusal_text(r, out),
+        Ok(c) => {
+            let n = c.terms.processes;
+            let list = &sheet[c.offset..c.offset + c.size];
             lines::listing_lamport_text(
-                c.terms.processes,
+                n,
                 list,
-                &clocks,
-                &masks,
+                &work.clocks,
+                &work.masks,
                 &numbers,
                 c.carried,
                 out,

@@ -3,8 +3,8 @@ use Rattle.desk.proofs.Printed.{printed_as}
 use Rattle.class.proofs.Answered.{class_refused, class_done}
 use Rattle.class.proofs.answer.class_answer.Goals as goal
 
-pub returns-in-Refused : goal.returns-in-Refused
-returns-in-Refused c = printed_as (class_refused _ _ _ _ _ c.in-Refused.ensures) c.refusal_text.ensures
+pub returns-in-Err : goal.returns-in-Err
+returns-in-Err c = printed_as (class_refused _ _ _ _ _ c.in-Err.ensures) c.refusal_text.ensures
 
-pub returns-in-Done : goal.returns-in-Done
-returns-in-Done c = printed_as (class_done _ _ _ _ _ c.in-Done.ensures) c.class_text.ensures
+pub returns-in-Ok : goal.returns-in-Ok
+returns-in-Ok c = printed_as (class_done _ _ _ _ _ c.in-Ok.ensures) c.class_text.ensures

@@ -8,22 +8,22 @@ use Rattle.sheet.proofs.Accepted.{Accepted, accepted}
 use Rattle.desk.proofs.Printed.{printed_as}
 use Rattle.listing.proofs.Listed.{as_read, lamport_refused, lamport_done}
 use Rattle.listing.proofs.answer.listing_lamport_answer.Goals as goal
-use Rattle.listing.proofs.answer.listing_lamport_answer.Goals.{In-Done}
+use Rattle.listing.proofs.answer.listing_lamport_answer.Goals.{In-Ok}
 
 -- The sheet is accepted with those contents.
 sheet_accepted :
-    (c : goal.In-Done) → let x = c.in-Done.c in let t = c.read_lamport-r.new in
+    (c : goal.In-Ok) → let x = c.in-Ok.c in let t = c.read_lamport.new in
     Accepted c.args.sheet.now ample (work t.clocks t.masks t.values) (stated x.terms) x.offset x.size x.carried
-sheet_accepted c = let e = c.in-Done.ensures in accepted _ ample {c = c.in-Done.c} refl (as_read c.args.sheet.now e.numbers, e.place)
+sheet_accepted c = let e = c.in-Ok.ensures in accepted _ ample {c = c.in-Ok.c} refl (as_read c.args.sheet.now e.numbers, e.place)
 
 pub overflow_add-list : goal.overflow_add-list
-overflow_add-list c = let s = sheet_accepted (goal.at.overflow_add-list c).In-Done in omega (arith, s.inside, s.short)
+overflow_add-list c = let s = sheet_accepted (goal.at.overflow_add-list c).In-Ok in omega (arith, s.inside, s.short)
 
 pub slice_bounds-list-end : goal.slice_bounds-list-end
-slice_bounds-list-end c = omega (arith, (sheet_accepted (goal.at.slice_bounds-list-end c).In-Done).inside)
+slice_bounds-list-end c = omega (arith, (sheet_accepted (goal.at.slice_bounds-list-end c).In-Ok).inside)
 
-pub returns-in-Refused : goal.returns-in-Refused
-returns-in-Refused c = printed_as (lamport_refused _ (as_read c.args.sheet.now c.in-Refused.ensures.numbers)) c.refusal_text.ensures
+pub returns-in-Err : goal.returns-in-Err
+returns-in-Err c = printed_as (lamport_refused _ (as_read c.args.sheet.now c.in-Err.ensures.numbers)) c.refusal_text.ensures
 
-pub returns-in-Done : goal.returns-in-Done
-returns-in-Done c = printed_as (lamport_done (sheet_accepted (goal.at.returns-in-Done c).In-Done) c.in-Done.ensures.numbers) c.listing_lamport_text.ensures
+pub returns-in-Ok : goal.returns-in-Ok
+returns-in-Ok c = printed_as (lamport_done (sheet_accepted (goal.at.returns-in-Ok c).In-Ok) c.in-Ok.ensures.numbers) c.listing_lamport_text.ensures
