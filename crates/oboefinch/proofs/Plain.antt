@@ -2,12 +2,21 @@
 use Prim.Native.Nat.{ℕ}
 use mathlib.Core.Path.{◌≡◌, ap, ◌∙◌}
 use mathlib.Core.List.{List}
+use Rattle.course.specs.declared.Classed as declared
+use Rattle.layout.specs.declared.Written as declared_written
 use Rattle.paper.specs.Buffers.{Work}
 use Rattle.paper.specs.Class as paper
 use Rattle.paper.specs.Class.{Classed}
 use Rattle.paper.specs.Questions.{Written, writing, comparing, chaining}
 use Rattle.paper.specs.Refusals.{Outcome}
 use Rattle.paper.specs.Terms.{Terms}
+
+-- The paper's words for what class mode and writing answer.
+abbrev pub class_as : declared.Classed → Classed
+class_as c = record { accepted = c.accepted; carried = c.carried }
+
+abbrev pub written_as : declared_written.Written → Written
+written_as w = record { events = w.events; bytes = w.bytes }
 
 module _ {t u : Terms} (same : t ≡ u) (list : List ℕ) (w : Work) where
   pub class : (answered : List ℕ) {x : (Outcome Classed × Work) × List ℕ} → x ≡ paper.class t list w answered → x ≡ paper.class u list w answered

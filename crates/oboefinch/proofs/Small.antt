@@ -1,18 +1,13 @@
 -- Fields that do not touch in the number: the first two are below 256, the others below 65,536, and each can be read back.
-use Prim.Native.Nat.{◌/◌, ◌%◌, ◌<◌}
+use Prim.Native.Nat.{◌/◌, ◌%◌}
 use native.Mathlib.Omega.{arith}
 use mathlib.Core.Path.{◌≡◌}
 use lib.Dec.{eqb}
 use borrow.Author.Tests.{eqb-true}
 use Rattle.paper.specs.Refusals.{Refusal, outcome}
 use Rattle.paper.proofs.Laws.Tables.{cond_cases}
+pub use Rattle.oboefinch.specs.Packed.{Small}
 use Rattle.oboefinch.specs.Packed.{Fields, packed, refusal_fields, fields}
-
-pub record Small (f : Fields) : Type 0 where
-  pub number : f.number < 256
-  pub x : f.x < 256
-  pub y : f.y < 65536
-  pub z : f.z < 65536
 
 -- Each field, from the number.
 pub record ReadBack (f : Fields) : Type 0 where

@@ -1,5 +1,5 @@
 -- The answer of a C call: one number, in which four fields stand.
-use Rattle.std.specs.Prelude.{ℕ, ◌+◌, ◌*◌}
+use Rattle.std.specs.Prelude.{ℕ, ◌+◌, ◌*◌, ◌<◌}
 use Rattle.paper.specs.Buffers.{Work}
 use Rattle.paper.specs.Class.{Classed}
 use Rattle.paper.specs.Event.{how_many}
@@ -14,6 +14,13 @@ pub record Fields : Type 0 where
   pub x : ℕ
   pub y : ℕ
   pub z : ℕ
+
+-- Fields that do not touch in the number.
+pub record Small (f : Fields) : Type 0 where
+  pub number : f.number < 256
+  pub x : f.x < 256
+  pub y : f.y < 65536
+  pub z : f.z < 65536
 
 abbrev pub packed : Fields → ℕ
 packed f = f.number + 256 * f.x + 65536 * f.y + 4294967296 * f.z

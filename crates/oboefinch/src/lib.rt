@@ -14,14 +14,8 @@ ghost use Rattle.course.specs.Said.{work};
 ghost use Rattle.oboefinch.specs.Packed.{read_fields, class_fields, write_fields, verdict_fields, chain_fields, mark_fields, saving_fields};
 ghost use Rattle.oboefinch.specs.Packed.{answered, with_work, with_output, with_two};
 
-use clock::{Ordered, Position, Terms};
-use course::Classed;
-use layout::Wrote;
-use order::Compared;
-use percentage::Saved;
-use pupil::Marked;
-use sheet::Reading;
-use teaching::Chained;
+use clock::{Position, Terms};
+use pack::Answer;
 
 // Reading a sheet.
 #[unsafe(no_mangle)]
@@ -35,10 +29,7 @@ pub extern "C" fn oboefinch_read(
         ≡ with_work read_fields
         (reading sheet.now (work clocks.old masks.old values.old)) }
 {
-    match sheet::read(sheet, clocks, masks, values) {
-        Reading::Refused(r) => pack::refusal(r),
-        Reading::Done(c) => pack::fields(0, c.terms.processes, c.size / 8, c.carried),
-    }
+    sheet::read(sheet, clocks, masks, values).packed()
 }
 
 // Reading a sheet, with the Lamport numbers of its events.
@@ -54,10 +45,7 @@ pub extern "C" fn oboefinch_read_lamport(
         ≡ with_output read_fields
         (reading_lamport sheet.now (work clocks.old masks.old values.old) lamports.old) }
 {
-    match sheet::read_lamport(sheet, clocks, masks, values, lamports) {
-        Reading::Refused(r) => pack::refusal(r),
-        Reading::Done(a) => pack::fields(0, a.terms.processes, a.size / 8, a.carried),
-    }
+    sheet::read_lamport(sheet, clocks, masks, values, lamports).packed()
 }
 
 // Class mode: each offer of the list is tried.
@@ -75,10 +63,7 @@ pub extern "C" fn oboefinch_class(
         (paper.class (plain n) list.now (work clocks.old masks.old values.old) answers.old) }
 {
     let terms = Terms::plain(n);
-    match course::class(terms, list, clocks, masks, values, answers) {
-        Classed::Refused(r) => pack::refusal(r),
-        Classed::Done(accepted, carried) => pack::fields(0, 0, accepted, carried),
-    }
+    course::class(terms, list, clocks, masks, values, answers).packed()
 }
 
 // Class mode, with the Lamport numbers of the accepted events.
@@ -97,10 +82,7 @@ pub extern "C" fn oboefinch_class_lamport(
         (paper.class_lamport (plain n) list.now (work clocks.old masks.old values.old) answers.old lamports.old) }
 {
     let terms = Terms::plain(n);
-    match course::class_lamport(terms, list, clocks, masks, values, answers, lamports) {
-        Classed::Refused(r) => pack::refusal(r),
-        Classed::Done(k, v) => pack::fields(0, 0, k, v),
-    }
+    course::class_lamport(terms, list, clocks, masks, values, answers, lamports).packed()
 }
 
 // Writing the sheet of a list.
@@ -118,10 +100,7 @@ pub extern "C" fn oboefinch_write(
         (writing (plain n) list.now (work clocks.old masks.old values.old) sheet.old) }
 {
     let terms = Terms::plain(n);
-    match layout::write(terms, list, clocks, masks, values, sheet) {
-        Wrote::Refused(r) => pack::refusal(r),
-        Wrote::Done(events, bytes) => pack::fields(0, 0, events, bytes),
-    }
+    layout::write(terms, list, clocks, masks, values, sheet).packed()
 }
 
 // The verdict on two events of a list.
@@ -142,10 +121,7 @@ pub extern "C" fn oboefinch_compare(
     let a = Position(first);
     let b = Position(second);
     let terms = Terms::plain(n);
-    match order::compare(terms, list, clocks, masks, values, a, b) {
-        Compared::Refused(r) => pack::refusal(r),
-        Compared::Done(v) => pack::verdict(v),
-    }
+    order::compare(terms, list, clocks, masks, values, a, b).packed()
 }
 
 // The sends that lead from one event of a list to another.
@@ -167,10 +143,7 @@ pub extern "C" fn oboefinch_chain(
     let a = Position(first);
     let b = Position(second);
     let terms = Terms::plain(n);
-    match teaching::chain(terms, list, clocks, masks, values, a, b, chain) {
-        Chained::Refused(r) => pack::refusal(r),
-        Chained::Done(length) => pack::fields(0, 0, 0, length),
-    }
+    teaching::chain(terms, list, clocks, masks, values, a, b, chain).packed()
 }
 
 // Marking a pupil's list on a sheet.
@@ -187,10 +160,7 @@ pub extern "C" fn oboefinch_mark(
         ≡ with_output mark_fields
         (marking sheet.now lines.now (work clocks.old masks.old values.old) marks.old) }
 {
-    match pupil::mark(sheet, lines, clocks, masks, values, marks) {
-        Marked::Refused(r) => pack::refusal(r),
-        Marked::Done(total, count) => pack::fields(0, 0, total, count),
-    }
+    pupil::mark(sheet, lines, clocks, masks, values, marks).packed()
 }
 
 // What the short stamps of a sheet saved.
@@ -206,10 +176,7 @@ pub extern "C" fn oboefinch_savings(
         ≡ with_output saving_fields
         (storing sheet.now (work clocks.old masks.old values.old) percent.old) }
 {
-    match percentage::store(sheet, clocks, masks, values, percent) {
-        Saved::Refused(r) => pack::refusal(r),
-        Saved::Done(s) => pack::saving(s),
-    }
+    percentage::store(sheet, clocks, masks, values, percent).packed()
 }
 
 // The verdict on two lent clocks.
@@ -217,8 +184,5 @@ pub extern "C" fn oboefinch_savings(
 pub extern "C" fn oboefinch_order(first: &[u16], second: &[u16]) -> u64
     ensures { result ≡ answered verdict_fields (ordering first.now second.now) }
 {
-    match clock::order(first, second) {
-        Ordered::Refused(r) => pack::refusal(r),
-        Ordered::Done(v) => pack::verdict(v),
-    }
+    clock::order(first, second).packed()
 }

@@ -1,28 +1,16 @@
-use native.Mathlib.Omega.{arith}
-use mathlib.Core.Path.{refl}
+use Prim.Native.Nat.{ℕ}
 use Rattle.oboefinch.specs.Packed.{chain_fields}
 use Rattle.oboefinch.proofs.Calls.{chaining_small}
-use Rattle.oboefinch.proofs.Given.{small_output, answer_output}
+use Rattle.oboefinch.proofs.Given.{tells, small_output, answer_output}
 use Rattle.oboefinch.proofs.Plain as plain
 use Rattle.oboefinch.proofs.oboefinch_chain.Goals as goal
 
-pub refusal-requires : goal.refusal-requires
-refusal-requires c =
-    let e = plain.chain c.plain-terms.ensures _ _ _ _ _ c.in-Refused.ensures in
-    (small_output chain_fields refl e (chaining_small _ _ _ _ _ _)).y
+pub packed-requires : goal.packed-requires
+packed-requires c =
+    let e = plain.chain c.plain-terms.ensures _ _ _ _ _ c.chain.ensures in
+    small_output (tells (λ (k : ℕ). k) chain_fields _) e (chaining_small _ _ _ _ _ _)
 
-pub fields-requires : goal.fields-requires
-fields-requires c =
-    let e = plain.chain c.plain-terms.ensures _ _ _ _ _ c.in-Done.ensures in
-    let s = small_output chain_fields refl e (chaining_small _ _ _ _ _ _) in
-    omega (arith, s.z)
-
-pub returns-in-Refused : goal.returns-in-Refused
-returns-in-Refused c =
-    let e = plain.chain c.plain-terms.ensures _ _ _ _ _ c.in-Refused.ensures in
-    answer_output chain_fields refl e c.refusal.ensures
-
-pub returns-in-Done : goal.returns-in-Done
-returns-in-Done c =
-    let e = plain.chain c.plain-terms.ensures _ _ _ _ _ c.in-Done.ensures in
-    answer_output chain_fields refl e c.fields.ensures
+pub returns : goal.returns
+returns c =
+    let e = plain.chain c.plain-terms.ensures _ _ _ _ _ c.chain.ensures in
+    answer_output (tells (λ (k : ℕ). k) chain_fields _) e c.packed.ensures
