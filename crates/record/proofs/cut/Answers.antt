@@ -1,42 +1,20 @@
 -- A send's stamp: what grew is looked up before the own number is stored, the own component is looked at anew, and R2 marks the send.
-use Prim.Native.Nat.{ℕ}
-use mathlib.Core.List.{List}
 use mathlib.Core.Path.{◌≡◌, sym, ap, ◌∙◌}
 use native.Mathlib.Omega.{arith}
-use lib.Dec.{ltb}
-use lib.ListN.{get_or, set}
-use lib.Seq.{sets, get_or-set_other}
+use lib.Seq.{sets}
 use Rattle.paper.specs.Stamp.{mask, values}
 use Rattle.paper.specs.Running.{Running, counting, sending, news}
-use Rattle.record.specs.View.{view, viewing, newer, Whole}
+use Rattle.record.specs.View.{view, viewing, Whole}
 use Rattle.record.specs.declared.Record.{Record}
 use Rattle.record.proofs.Views.{counted_record, sent_record}
 use Rattle.record.proofs.cut.Goals as goal
 use Rattle.record.proofs.cut.Goals.{After-count}
-
--- Of the components other than its own, a count changes none.
-others : (u : List ℕ) (last i own k : ℕ) → (k ≡ i → ⊥) → newer u last k ≡ newer (set u i own) last k
-others u last i own k d = ap (ltb last) (sym (get_or-set_other u i k own 0 d))
 
 -- The record once the send is counted.
 counted : (c : goal.After-count) → view c.count.new.running ≡ counting c.args.from.0 (view c.args.running.now)
 counted c =
     let w : Whole c.args.running.now = record { clock = omega arith; updated = omega arith; sent = omega arith } in
     ap view c.count.ensures.1 ∙ counted_record w c.requires.0 c.count.ensures.0
-
-pub regrown-all-requires : goal.regrown-all-requires
-regrown-all-requires c =
-    let a = c.args in
-    let last = get_or a.running.now.sent a.to.0 0 in
-    let u = a.running.now.updated in (
-      omega (arith, c.requires.0),
-      record { bits = newer u last; is = c.grown-earlier.ensures; others = λ k d. rw c.count.ensures.1 (others u last a.from.0 _ k d) },
-    )
-
-pub gather-mask-requires : goal.gather-mask-requires
-gather-mask-requires c =
-    let h = c.requires in
-    (h.3, h.4, record { bits = _; is = c.regrown-all.ensures })
 
 pub returns : goal.returns
 unfolding news

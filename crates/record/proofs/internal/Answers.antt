@@ -4,7 +4,7 @@ use mathlib.Core.Path.{◌≡◌, ap, ◌∙◌}
 use native.Mathlib.Omega.{arith}
 use Rattle.record.specs.Moves.{countable}
 use Rattle.record.specs.View.{view, Whole}
-use Rattle.record.proofs.Limits.{counted, tick_yes, tick_no}
+use Rattle.record.proofs.Limits.{counted, tick_yes}
 use Rattle.record.proofs.Views.{counted_record}
 use Rattle.record.proofs.internal.Goals as goal
 use Rattle.record.proofs.internal.Goals.{Then-is_countable}
@@ -12,11 +12,6 @@ use Rattle.record.proofs.internal.Goals.{Then-is_countable}
 -- In the branch, the limits hold.
 allowed : (c : goal.Then-is_countable) → let a = c.args in countable a.by.0 a.running.now.clock ≡ true
 allowed c = rw c.is_countable.ensures at c.if-is_countable.true
-
-pub count-requires : goal.count-requires
-count-requires c =
-    let a = c.args in
-    counted a.by.0 a.running.now.clock (allowed (goal.at.count-requires c).Then-is_countable)
 
 pub returns-then-is_countable : goal.returns-then-is_countable
 returns-then-is_countable c =
@@ -26,8 +21,3 @@ returns-then-is_countable c =
     let l = allowed (goal.at.returns-then-is_countable c).Then-is_countable in
     let w : Whole r = record { clock = omega arith; updated = omega arith; sent = omega arith } in
     tick_yes a.by.0 (view r) l (ap view n.ensures.1 ∙ counted_record w (counted a.by.0 r.clock l).0 n.ensures.0)
-
-pub returns : goal.returns
-returns c =
-    let a = c.args in
-    tick_no a.by.0 (view a.running.now) (rw c.is_countable.ensures at c.if-is_countable.false)

@@ -4,8 +4,7 @@ use mathlib.Core.Path.{◌≡◌}
 use Prim.Native.Nat.{◌^◌, ◌<◌}
 use native.Mathlib.Omega.{arith}
 use Rattle.record.specs.Moves.{mergeable}
-use Rattle.record.specs.View.{view}
-use Rattle.record.proofs.Limits.{merge_fits, merge_yes, merge_no}
+use Rattle.record.proofs.Limits.{merge_fits}
 use Rattle.record.proofs.merge.Goals as goal
 use Rattle.record.proofs.merge.Goals.{Start, Then-is_countable-has_values}
 
@@ -23,13 +22,3 @@ take-requires c =
     let a = c.args in
     let f = merge_fits a.by.0 a.mask a.values.now a.at a.running.now.clock (word (goal.at.take-requires c).Start) (allowed (goal.at.take-requires c).Then-is_countable-has_values) in
     (f.0, f.1, f.2)
-
-pub returns-then-is_countable-has_values : goal.returns-then-is_countable-has_values
-returns-then-is_countable-has_values c =
-    let a = c.args in
-    merge_yes a.by.0 a.mask a.values.now a.at (view a.running.now) (allowed (goal.at.returns-then-is_countable-has_values c).Then-is_countable-has_values) c.take.ensures
-
-pub returns : goal.returns
-returns c =
-    let a = c.args in
-    merge_no a.by.0 a.mask a.values.now a.at (view a.running.now) (rw (c.is_countable.ensures, c.has_values.ensures) at c.if-is_countable-has_values.false)

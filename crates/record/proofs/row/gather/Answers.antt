@@ -1,12 +1,12 @@
 -- The mask of the components below n is what is left of the mask of all by 2 to the n, and its values are those that `pick` stores.
-use Prim.Native.Nat.{ℕ, ◌*◌, ◌%◌, ◌^◌, ◌≤◌}
+use Prim.Native.Nat.{ℕ, ◌*◌, ◌%◌, ◌^◌}
 use mathlib.Core.Bool.{Bool}
 use mathlib.Core.Path.{◌≡◌, ap, ◌∙◌}
 use native.Mathlib.Omega.{arith}
-use lib.Pow.{pow_mono, shl_exact}
+use lib.Pow.{shl_exact}
 use lib.Seq.{sets}
 use Rattle.paper.specs.Stamp.{mask, bit, values}
-use Rattle.paper.proofs.Laws.Masks.{mask_lt, count_le}
+use Rattle.paper.proofs.Laws.Masks.{count_le}
 use Rattle.record.proofs.Bits.{mask_low, values_kept, count_kept}
 use Rattle.record.proofs.row.gather.Goals as goal
 use Rattle.record.proofs.row.gather.Goals.{Start}
@@ -17,15 +17,6 @@ divisor c = let h = c.requires.1 in shl_exact {a = 1} 1 c.args.n 64 (omega arith
 -- What is kept of the mask of all components is the mask of those below n.
 kept : (c : goal.Start) (p : ℕ → Bool) → c.args.all ≡ mask p 32 → c.args.all % ((1 * 2 ^ c.args.n) % 2 ^ 64) ≡ mask p c.args.n
 kept c p e = rw (divisor c, e) (mask_low p c.args.n c.requires.1)
-
-pub nonzero_rem-m : goal.nonzero_rem-m
-nonzero_rem-m c = omega (arith, divisor (goal.at.nonzero_rem-m c).Start, mask_lt c.requires.2.bits c.args.n)
-
-pub overflow_cast-m-2 : goal.overflow_cast-m-2
-overflow_cast-m-2 c =
-    let w = c.requires.2 in
-    let two : 2 ^ c.args.n ≤ 2 ^ 32 = pow_mono c.requires.1 in
-    omega (arith, kept (goal.at.overflow_cast-m-2 c).Start w.bits w.is, mask_lt w.bits c.args.n)
 
 pub pick-requires : goal.pick-requires
 pick-requires c =

@@ -6,12 +6,6 @@ use Rattle.offers.specs.View.{kind_number}
 use Rattle.offers.proofs.ByTables.{tables_used, tables_free}
 use Rattle.offers.proofs.channel.Tables.allows.Goals as goal
 
-pub waits-requires : goal.waits-requires
-waits-requires c =
-    let h = c.requires.0 ∙ ap kind_number c.in-Receive.is in
-    let p = c.requires.1 h in
-    (h, p.0, p.1, c.requires.2)
-
 pub returns-in-Send : goal.returns-in-Send
 returns-in-Send c = tables_used _ _ _ _ _ _ (rw (c.requires.0, c.in-Send.is, lt-ltb _ _ c.if-at-k.true) refl)
 

@@ -29,6 +29,3 @@ pub returns-in_err-allows-clause-answer : goal.returns-in_err-allows-clause-answ
 returns-in_err-allows-clause-answer c =
     let p = err_from_is_err_and c.from_residual-in_err-allows.result c.from_residual-in_err-allows.ensures.1 in
     rw (p.1, p.2) (c.in_err-allows.ensures ∙ shape_rest _ _ _ (fit (goal.at.returns-in_err-allows-clause-answer c).In_ok-kind))
-
-pub returns-clause-answer : goal.returns-clause-answer
-returns-clause-answer c = c.in_ok-allows.ensures ∙ shape_rest _ _ _ (fit (goal.at.returns-clause-answer c).In_ok-kind)
