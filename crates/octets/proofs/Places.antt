@@ -31,17 +31,6 @@ byte_out s k h = get_or-eq_default s 0 h
 pub two_out : (s : List ℕ) (k : ℕ) → length s ≤ k → two s k ≡ 0
 two_out s k h = omega (arith, byte_out s k h, byte_out s (k + 1) (omega arith))
 
-module _ (s : List ℕ) (at k : ℕ) (small : length s < 2 ^ 64) where
-  pub byte_past : byte s (past at k) ≡ byte s (at + k)
-  byte_past =
-      past_cases (λ (i : ℕ). byte s i ≡ byte s (at + k)) (length s) at k small refl
-      (λ i h h'. byte_out s i h ∙ sym (byte_out s (at + k) h'))
-
-  pub two_past : two s (past at k) ≡ two s (at + k)
-  two_past =
-      past_cases (λ (i : ℕ). two s i ≡ two s (at + k)) (length s) at k small refl
-      (λ i h h'. two_out s i h ∙ sym (two_out s (at + k) h'))
-
 -- Behind the end nothing is stored.
 pub sets_out : (t l : List ℕ) (i : ℕ) → length l ≤ i → sets l i t ≡ l
 sets_out [] l i h = refl

@@ -1,7 +1,6 @@
 -- The numbers before this one are stored, each in at most 21 bytes.
 use native.Mathlib.Omega.{arith}
 use Rattle.paper.specs.Listing.{word, words}
-use Rattle.octets.proofs.Appended.{long}
 use Rattle.octets.proofs.Written.{written_none, written_more, written_all}
 use Rattle.octets.proofs.text.put_words.Goals as goal
 
@@ -12,9 +11,6 @@ pub loop-x-preserved : goal.loop-x-preserved
 loop-x-preserved c =
     let p = c.put_word-k.ensures in
     written_more word 21 c.loop-x.invariant c.loop-x-test.true (rw c.wide.ensures.0 at p.0) p.1
-
-pub shape_of-out : goal.shape_of-out
-shape_of-out c = long c.loop-x.invariant.is
 
 pub returns : goal.returns
 unfolding words
