@@ -4,27 +4,23 @@ ghost use Rattle.chain.specs.Answer.{chain_answer};
 
 use clock::Position;
 use desk::PAGE;
-use teaching::Chained;
 
 // What `chain` prints: the chain from one event of a sheet to another.
 pub fn chain_answer(sheet: &[u8], first: Position, second: Position, out: &mut [u8; PAGE]) -> usize
     ensures { Printed out.old (chain_answer sheet.now first.0 second.0) result out.new }
 {
-    let mut clocks = [0u16; 16384];
-    let mut masks = [0u32; 512];
-    let mut values = [0u16; 16384];
+    let mut work = desk::WORK;
     let mut chain = [0u16; 31];
-    let c = teaching::chain_sheet(
+    match teaching::chain_sheet(
         sheet,
-        &mut clocks,
-        &mut masks,
-        &mut values,
+        &mut work.clocks,
+        &mut work.masks,
+        &mut work.values,
         first,
         second,
         &mut chain,
-    );
-    match c {
-        Chained::Refused(r) => lines::refusal_text(r, out),
-        Chained::Done(k) => lines::chain_text(&chain, k, out),
+    ) {
+        Err(r) => lines::refusal_text(r, out),
+        Ok(k) => lines::chain_text(&chain, k, out),
     }
 }

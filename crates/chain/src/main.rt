@@ -8,7 +8,6 @@ ghost use Rattle.chain.specs.Answer.{chain_answer};
 mod answer;
 
 use clock::Position;
-use desk::Pair;
 use std::io;
 use std::io::{Read, Write};
 
@@ -23,15 +22,13 @@ fn run<R: Read, W: Write>(
         Appends (W.contents to.old) (W.contents to.new) (chain_answer sheet first.0 second.0))) }
 {
     // One byte more than the longest sheet, so that a longer one is refused.
-    let mut sheet = [0u8; 40961];
-    let size = desk::read_full(from, &mut sheet)?;
-    let mut page = [0u8; desk::PAGE];
-    let length = answer::chain_answer(&sheet[..size], first, second, &mut page);
-    desk::print(to, &page, length)
+    desk::serve::<40961, _, _, _>(from, to, |sheet, page| {
+        answer::chain_answer(sheet, first, second, page)
+    })
 }
 
 fn main(rt: HostRuntime) -> io::Result<()> {
-    let Pair::Of(first, second) = desk::positions(&rt) else {
+    let Some((first, second)) = desk::positions(&rt) else {
         return eprintln!(rt; "usage: chain FIRST SECOND < SHEET");
     };
     run(

@@ -3,26 +3,22 @@ ghost use Rattle.lines.specs.Text.{Printed};
 ghost use Rattle.marker.specs.Answer.{marker_answer};
 
 use desk::PAGE;
-use pupil::Marked;
 
 // What `marker` prints of a sheet and a pupil's list.
 pub fn marker_answer(sheet: &[u8], list: &[u8], out: &mut [u8; PAGE]) -> usize
     ensures { Printed out.old (marker_answer sheet.now list.now) result out.new }
 {
-    let mut clocks = [0u16; 16384];
-    let mut masks = [0u32; 512];
-    let mut values = [0u16; 16384];
+    let mut work = desk::WORK;
     let mut slots = [0u8; 200];
-    let m = pupil::mark(
+    match pupil::mark(
         sheet,
         list,
-        &mut clocks,
-        &mut masks,
-        &mut values,
+        &mut work.clocks,
+        &mut work.masks,
+        &mut work.values,
         &mut slots,
-    );
-    match m {
-        Marked::Refused(r) => lines::refusal_text(r, out),
-        Marked::Done(total, count) => lines::marker_text(&slots, total, count, out),
+    ) {
+        Err(r) => lines::refusal_text(r, out),
+        Ok(m) => lines::marker_text(&slots, m.total, m.lines, out),
     }
 }

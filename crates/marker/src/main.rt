@@ -12,27 +12,26 @@ use std::fs::Files;
 use std::io::{Read, Write};
 use std::{fs, io, str};
 
+// The file that the first argument names; none where it is not open or can't be read.
+fn named_file<R: Env + Files>(rt: &R) -> Option<R::File> {
+    // No path is longer.
+    let mut name = [0u8; 4095];
+    let n = rt.arg(1, &mut name).ok()?;
+    let path = str::from_utf8(&name[..n]).ok()?;
+    let mut file = fs::open(rt, path).ok()?;
+    // Even a read of no bytes fails where a file can't be read, as a folder.
+    file.read(&mut []).ok()?;
+    Some(file)
+}
+
 // Puts the file that the first argument names into a buffer, and returns how many bytes of it; none where it is not open or can't be read.
 fn read_file<R: Env + Files>(rt: &R, buf: &mut [u8]) -> io::Result<Option<usize>>
     ensures { IfOk result (λ found. IfSome found (λ n. n ≤ length buf.new)) }
 {
-    // No path is longer.
-    let mut name = [0u8; 4095];
-    let Ok(n) = rt.arg(1, &mut name) else {
+    let Some(mut file) = named_file(rt) else {
         return Ok(None);
     };
-    let Ok(path) = str::from_utf8(&name[..n]) else {
-        return Ok(None);
-    };
-    let Ok(mut file) = fs::open(rt, path) else {
-        return Ok(None);
-    };
-    // Even a read of no bytes fails where a file can't be read, as a folder.
-    if file.read(&mut []).is_err() {
-        return Ok(None);
-    }
-    let count = desk::read_full(&mut file, buf)?;
-    Ok(Some(count))
+    Ok(Some(desk::read_full(&mut file, buf)?))
 }
 
 // Reads a sheet and prints the marks of a pupil's list on it.
@@ -41,11 +40,9 @@ fn run<R: Read, W: Write>(list: &[u8], from: &mut R, to: &mut W) -> io::Result<(
         Appends (W.contents to.old) (W.contents to.new) (marker_answer sheet list.now))) }
 {
     // One byte more than the longest sheet, so that a longer one is refused.
-    let mut sheet = [0u8; 40961];
-    let size = desk::read_full(from, &mut sheet)?;
-    let mut page = [0u8; desk::PAGE];
-    let length = answer::marker_answer(&sheet[..size], list, &mut page);
-    desk::print(to, &page, length)
+    desk::serve::<40961, _, _, _>(from, to, |sheet, page| {
+        answer::marker_answer(sheet, list, page)
+    })
 }
 
 fn main(rt: HostRuntime) -> io::Result<()> {

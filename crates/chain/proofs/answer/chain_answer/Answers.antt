@@ -3,8 +3,8 @@ use Rattle.desk.proofs.Printed.{printed_as}
 use Rattle.chain.proofs.Asked.{chain_refused, chain_done}
 use Rattle.chain.proofs.answer.chain_answer.Goals as goal
 
-pub returns-in-Refused : goal.returns-in-Refused
-returns-in-Refused c = printed_as (chain_refused _ _ _ c.in-Refused.ensures) c.refusal_text.ensures
+pub returns-in-Err : goal.returns-in-Err
+returns-in-Err c = printed_as (chain_refused _ _ _ c.in-Err.ensures) c.refusal_text.ensures
 
-pub returns-in-Done : goal.returns-in-Done
-returns-in-Done c = printed_as (chain_done _ _ _ c.in-Done.ensures) c.chain_text.ensures
+pub returns-in-Ok : goal.returns-in-Ok
+returns-in-Ok c = printed_as (chain_done _ _ _ c.in-Ok.ensures) c.chain_text.ensures
