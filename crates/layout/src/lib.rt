@@ -17,6 +17,7 @@ pub struct Written {
 }
 
 // Writing: 3, 4, 8, 9, events in order, 21; the events at 24, the stamps straight after.
+// The work buffers stand one by one, as C lends them.
 pub fn write(
     terms: Terms,
     list: &[u8],

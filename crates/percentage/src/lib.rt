@@ -33,6 +33,7 @@ fn sends_in(list: &[u8]) -> usize
 }
 
 // The counts of a sheet.
+// The work buffers stand one by one, as C lends them.
 pub fn count(
     sheet: &[u8],
     clocks: &mut [u16],

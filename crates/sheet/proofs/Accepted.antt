@@ -2,7 +2,7 @@
 use Prim.Native.Nat.{ℕ, ◌+◌, ◌-◌, ◌/◌, ◌≤◌}
 use native.Mathlib.Omega.{arith}
 use mathlib.Core.List.{List, []}
-use mathlib.Core.Path.{◌≡◌, ap, ◌∙◌, subst, subst₂}
+use mathlib.Core.Path.{◌≡◌, ap, ◌∙◌, subst}
 use Rattle.std.specs.Prelude.{Result, Ok, Err}
 use lib.ListN.{length, take, drop, length-take, length-drop}
 use Rattle.clock.specs.Said.{refusal, stated}
@@ -62,13 +62,10 @@ module _ {b : List ℕ} {w w' : Work} {t : Terms} {at size carried : ℕ} where
         short = sheet.size.1;
       }
 
--- The part of the sheet that a caller lends on is the list that was read, and its events stand in the slots.
+-- The part of the sheet that a caller lends on is the list that was read.
 module _ {b : List ℕ} {w w' : Work} {t : Terms} {at size carried : ℕ} (s : Accepted b w w' t at size carried) where
   pub lent_list : list_in b ≡ take (at + size - at) (drop at b)
   lent_list = let e : size ≡ at + size - at = omega arith in s.list ∙ ap (λ (k : ℕ). take k (drop at b)) e
-
-  pub lent_stands : Stands t (take (at + size - at) (drop at b)) w w'
-  lent_stands = subst₂ (λ (t : Terms) (l : List ℕ). Stands t l w w') s.terms lent_list s.stands
 
 -- By the case of what the reader answers.
 module _ {r : Result declared_contents.Contents declared_refusal.Refusal} where

@@ -71,7 +71,7 @@ fn is_wrong_length(s: &[u8]) -> bool
 fn is_wrong_letters(s: &[u8]) -> bool
     ensures { result ≡ wrong_letters s.now }
 {
-    (byte_at(s, 0) != b'C') | (byte_at(s, 1) != b'K') | (byte_at(s, 2) != b'T')
+    !s.starts_with(b"CKT")
 }
 
 // 3.

@@ -37,6 +37,7 @@ impl Contents {
 }
 
 // Reading: 1 to 7, 9, events in order, then stamps; with the Lamport numbers of an accepted sheet's events.
+// The work buffers stand one by one, as C lends them.
 pub fn read_lamport(
     sheet: &[u8],
     clocks: &mut [u16],
