@@ -1,5 +1,6 @@
 pub mod Text
 pub mod Slots
+pub mod Lent
 pub mod Programs
 pub mod Marker
 pub mod Savings

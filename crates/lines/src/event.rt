@@ -3,7 +3,7 @@ ghost use Rattle.std.specs.Prelude.{◌≡◌, true, false, ◌++◌, ◌+◌, �
 ghost use Rattle.paper.specs.Event.{event_at, how_many};
 ghost use Rattle.paper.specs.Listing.{word, words};
 ghost use Rattle.octets.specs.Appended.{Appended};
-ghost use Rattle.lines.specs.Slots.{kind_letter, event_fields, last_field, slot_line, fitting};
+ghost use Rattle.lines.specs.Slots.{kind_letter, event_fields, last_field, fitting};
 
 use clock::event::{INTERNAL, SEND, kind_at, message_at, peer_at, process_at};
 use clock::{Clock, Position};
@@ -23,6 +23,8 @@ pub(crate) struct Slots<'a> {
 }
 
 impl<'a> Slots<'a> {
+    ghost use Rattle.lines.specs.Lent.{line_of};
+
     // What is lent, where it fits.
     pub(crate) fn lent(
         n: usize,
@@ -46,26 +48,32 @@ impl<'a> Slots<'a> {
     }
 
     // How many events there are.
-    pub(crate) fn events(self) -> usize
-        ensures { (result ≡ how_many self.entry.list.now) × (result ≤ 512) }
+    pub(crate) fn events(&self) -> usize
+        ensures { (result ≡ how_many self.now.list.now) × (result ≤ 512) }
     {
         self.list.len() / 8
     }
 
-    // The line of the event at position i, which is accepted as number a.
-    pub(crate) fn put_event(self, out: &mut [u8], at: usize, i: usize, a: usize) -> usize
-        requires { a < how_many self.list.now }
-        ensures { Appended out.old at (slot_line self.entry.processes self.entry.list.now self.entry.clocks.now self.entry.masks.now self.entry.numbers.now i a) result out.new × (result ≤ at + 800) }
+    // The line of the event at a position, which is accepted as that number.
+    pub(crate) fn put_event(
+        &self,
+        out: &mut [u8],
+        at: usize,
+        position: usize,
+        number: usize,
+    ) -> usize
+        requires { number < how_many self.now.list.now }
+        ensures { Appended out.old at (line_of self.now position number) result out.new × (result ≤ at + 800) }
     {
-        let from = self.processes * a;
-        let at = put_fields(out, at, self.list, i);
+        let from = self.processes * number;
+        let at = put_fields(out, at, self.list, position);
         let at = put_stamp(
             out,
             at,
-            self.masks[a],
+            self.masks[number],
             &self.clocks[from..from + self.processes],
         );
-        let at = put_last(out, at, self.numbers, a);
+        let at = put_last(out, at, self.numbers, number);
         put(out, at, b'\n')
     }
 }
@@ -92,17 +100,17 @@ fn letter(kind: u8) -> u8
     }
 }
 
-// The fields of the event at position i: position, kind, process, peer, message.
-fn put_fields(out: &mut [u8], at: usize, list: &[u8], i: usize) -> usize
-    ensures { Appended out.old at (event_fields i (event_at list.now (8 * i))) result out.new × (result ≤ at + 85) }
+// The fields of the event at a position: position, kind, process, peer, message.
+fn put_fields(out: &mut [u8], at: usize, list: &[u8], position: usize) -> usize
+    ensures { Appended out.old at (event_fields position (event_at list.now (8 * position))) result out.new × (result ≤ at + 85) }
 {
-    let e = Position(i);
-    let at = put_decimal(out, at, i);
+    let event = Position(position);
+    let at = put_decimal(out, at, position);
     let at = put(out, at, b' ');
-    let at = put(out, at, letter(kind_at(list, e)));
-    let at = put_word(out, at, process_at(list, e).0.wide());
-    let at = put_word(out, at, peer_at(list, e).0.wide());
-    put_word(out, at, message_at(list, e).0.wide())
+    let at = put(out, at, letter(kind_at(list, event)));
+    let at = put_word(out, at, process_at(list, event).0.wide());
+    let at = put_word(out, at, peer_at(list, event).0.wide());
+    put_word(out, at, message_at(list, event).0.wide())
 }
 
 // The mask and the components.
@@ -114,11 +122,11 @@ fn put_stamp(out: &mut [u8], at: usize, mask: u32, parts: &[u16]) -> usize
     put_words(out, at, parts)
 }
 
-// The last field: number a, where it is lent.
-fn put_last(out: &mut [u8], at: usize, numbers: &[u16], a: usize) -> usize
-    ensures { Appended out.old at (last_field numbers.now a) result out.new × (result ≤ at + 21) }
+// The last field of the event of that number, where one is lent.
+fn put_last(out: &mut [u8], at: usize, numbers: &[u16], number: usize) -> usize
+    ensures { Appended out.old at (last_field numbers.now number) result out.new × (result ≤ at + 21) }
 {
-    match numbers.get(a) {
+    match numbers.get(number) {
         Some(x) => put_word(out, at, x.wide()),
         None => at,
     }

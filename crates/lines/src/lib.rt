@@ -100,7 +100,7 @@ pub fn class_text(
         return 0;
     }
     let at = programs::put_class_head(out, offers, n, accepted, carried);
-    programs::put_offers(out, at, slots, &answers[..offers])
+    programs::put_offers(out, at, &slots, &answers[..offers])
 }
 
 // The marks of a pupil's lines, the first `len` slots, and their total.

@@ -4,7 +4,8 @@ ghost use Rattle.paper.specs.Event.{how_many};
 ghost use Rattle.paper.specs.Listing.{head_line};
 ghost use Rattle.octets.specs.Appended.{Appended};
 ghost use Rattle.lines.specs.Text.{Printed, each};
-ghost use Rattle.lines.specs.Slots.{slot_line, numbered_text};
+ghost use Rattle.lines.specs.Slots.{numbered_text};
+ghost use Rattle.lines.specs.Lent.{line_of};
 
 use crate::event::Slots;
 use octets::store::put;
@@ -19,8 +20,8 @@ fn put_head(out: &mut [u8], events: usize, processes: usize, carried: usize) -> 
     put(out, at, b'\n')
 }
 
-fn put_events(out: &mut [u8], at: usize, slots: Slots) -> usize
-    ensures { Appended out.old at (each (λ i. slot_line slots.entry.processes slots.entry.list.now slots.entry.clocks.now slots.entry.masks.now slots.entry.numbers.now i i) (how_many slots.entry.list.now)) result out.new × (result ≤ at + 409600) }
+fn put_events(out: &mut [u8], at: usize, slots: &Slots) -> usize
+    ensures { Appended out.old at (each (λ i. line_of slots.now i i) (how_many slots.now.list.now)) result out.new × (result ≤ at + 409600) }
 {
     let mut end = at;
     for i in 0..slots.events() {
@@ -45,5 +46,5 @@ pub(crate) fn put_listing(
         return 0;
     };
     let at = put_head(out, slots.events(), n, carried);
-    put_events(out, at, slots)
+    put_events(out, at, &slots)
 }

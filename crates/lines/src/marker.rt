@@ -10,11 +10,11 @@ use octets::store::put;
 use octets::text::{put_decimal, put_named, put_word};
 use octets::width::Narrow;
 
-// The line of the mark at j.
-fn put_mark(out: &mut [u8], at: usize, j: usize, mark: u8) -> usize
-    ensures { Appended out.old at (decimal j ++ word mark ++ text "\n") result out.new × (result ≤ at + 800) }
+// The line of the mark at a place.
+fn put_mark(out: &mut [u8], at: usize, place: usize, mark: u8) -> usize
+    ensures { Appended out.old at (decimal place ++ word mark ++ text "\n") result out.new × (result ≤ at + 800) }
 {
-    let at = put_decimal(out, at, j);
+    let at = put_decimal(out, at, place);
     let at = put_word(out, at, mark.wide());
     put(out, at, b'\n')
 }

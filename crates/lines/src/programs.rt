@@ -3,7 +3,7 @@ ghost use Rattle.std.specs.Prelude.{◌≡◌, cond, [], ◌+◌, ◌≤◌, ◌
 ghost use Rattle.paper.specs.Event.{how_many};
 ghost use Rattle.octets.specs.Appended.{Appended};
 ghost use Rattle.lines.specs.Text.{each};
-ghost use Rattle.lines.specs.Slots.{slot_line};
+ghost use Rattle.lines.specs.Lent.{line_of};
 ghost use Rattle.lines.specs.Programs.{chain_line, class_head, refused_line, offer_line};
 
 use crate::event::Slots;
@@ -39,30 +39,37 @@ pub(crate) fn put_class_head(
     put(out, at, b'\n')
 }
 
-fn put_refused(out: &mut [u8], at: usize, i: usize, answer: u8) -> usize
-    ensures { Appended out.old at (refused_line i answer) result out.new × (result ≤ at + 800) }
+fn put_refused(out: &mut [u8], at: usize, position: usize, answer: u8) -> usize
+    ensures { Appended out.old at (refused_line position answer) result out.new × (result ≤ at + 800) }
 {
-    let at = put_decimal(out, at, i);
+    let at = put_decimal(out, at, position);
     let at = put_named(out, at, b" refused", answer.wide());
     put(out, at, b'\n')
 }
 
-// The offer at position i with its answer; a offers before it are accepted.
-fn put_offer(out: &mut [u8], at: usize, slots: Slots, i: usize, answer: u8, a: usize) -> usize
-    requires { a < how_many slots.list.now }
-    ensures { Appended out.old at (cond (eqb answer 0) (slot_line slots.entry.processes slots.entry.list.now slots.entry.clocks.now slots.entry.masks.now slots.entry.numbers.now i a) (refused_line i answer)) result out.new × (result ≤ at + 800) }
+// The offer at a position with its answer, so many offers before it being accepted.
+fn put_offer(
+    out: &mut [u8],
+    at: usize,
+    slots: &Slots,
+    position: usize,
+    answer: u8,
+    accepted: usize,
+) -> usize
+    requires { accepted < how_many slots.now.list.now }
+    ensures { Appended out.old at (cond (eqb answer 0) (line_of slots.now position accepted) (refused_line position answer)) result out.new × (result ≤ at + 800) }
 {
     match answer {
-        0 => slots.put_event(out, at, i, a),
-        _ => put_refused(out, at, i, answer),
+        0 => slots.put_event(out, at, position, accepted),
+        _ => put_refused(out, at, position, answer),
     }
 }
 
 // Each offer with its answer.
-pub(crate) fn put_offers(out: &mut [u8], at: usize, slots: Slots, answers: &[u8]) -> usize
-    requires few { length answers.now ≡ how_many slots.list.now }
-    requires bare { slots.numbers.now ≡ [] }
-    ensures { Appended out.old at (each (offer_line slots.entry.processes slots.entry.list.now answers.now slots.entry.clocks.now slots.entry.masks.now) (length answers.now)) result out.new × (result ≤ at + 409600) }
+pub(crate) fn put_offers(out: &mut [u8], at: usize, slots: &Slots, answers: &[u8]) -> usize
+    requires few { length answers.now ≡ how_many slots.now.list.now }
+    requires bare { slots.now.numbers.now ≡ [] }
+    ensures { Appended out.old at (each (offer_line slots.now.processes slots.now.list.now answers.now slots.now.clocks.now slots.now.masks.now) (length answers.now)) result out.new × (result ≤ at + 409600) }
 {
     let mut end = at;
     let mut accepted = 0;

@@ -33,5 +33,5 @@ loop-i-preserved c =
 pub returns : goal.returns
 returns c =
     let l = c.loop-i.invariant.lines in
-    let f = fits _ _ _ _ c.args.slots.fit in
+    let f = fits _ _ _ _ c.args.slots.now.fit in
     (lined_all _ _ l c.loop-i.auto.i-end c.loop-i-test.false, omega (arith, l.short, f.short, c.requires.few))

@@ -4,4 +4,4 @@ use Rattle.lines.proofs.Slots.{fits}
 use Rattle.lines.proofs.event.Slots.events.Goals as goal
 
 pub returns : goal.returns
-returns c = let f = fits _ _ _ _ c.args.self.fit in (refl, omega (arith, f.short))
+returns c = let f = fits _ _ _ _ c.args.self.now.fit in (refl, omega (arith, f.short))

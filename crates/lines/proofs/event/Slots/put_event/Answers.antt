@@ -9,28 +9,28 @@ use Rattle.lines.proofs.Slots.{row, words_are}
 use Rattle.lines.proofs.event.Slots.put_event.Goals as goal
 
 pub overflow_mul-from : goal.overflow_mul-from
-overflow_mul-from c = omega (arith, (row _ _ _ _ _ c.args.self.fit c.requires).small)
+overflow_mul-from c = omega (arith, (row _ _ _ _ _ c.args.self.now.fit c.requires).small)
 
-pub bounds-self-a : goal.bounds-self-a
-bounds-self-a c = (row _ _ _ _ _ c.args.self.fit c.requires).mask
+pub bounds-self-number : goal.bounds-self-number
+bounds-self-number c = (row _ _ _ _ _ c.args.self.now.fit c.requires).mask
 
 pub overflow_add-from : goal.overflow_add-from
-overflow_add-from c = let r = row _ _ _ _ _ c.args.self.fit c.requires in omega (arith, r.small, r.few)
+overflow_add-from c = let r = row _ _ _ _ _ c.args.self.now.fit c.requires in omega (arith, r.small, r.few)
 
 pub offset_bounds-self-from : goal.offset_bounds-self-from
-offset_bounds-self-from c = omega (arith, (row _ _ _ _ _ c.args.self.fit c.requires).small)
+offset_bounds-self-from c = omega (arith, (row _ _ _ _ _ c.args.self.now.fit c.requires).small)
 
 pub slice_bounds-put_stamp-end : goal.slice_bounds-put_stamp-end
-slice_bounds-put_stamp-end c = let r = row _ _ _ _ _ c.args.self.fit c.requires in search rules
+slice_bounds-put_stamp-end c = let r = row _ _ _ _ _ c.args.self.now.fit c.requires in search rules
 
 pub put_stamp-at-requires : goal.put_stamp-at-requires
-put_stamp-at-requires c = let r = row _ _ _ _ _ c.args.self.fit c.requires in search rules
+put_stamp-at-requires c = let r = row _ _ _ _ _ c.args.self.now.fit c.requires in search rules
 
 pub returns : goal.returns
 unfolding slot_line text
 returns c =
-    let s = c.args.self in
-    let many : s.processes * c.args.a + s.processes - s.processes * c.args.a ≡ s.processes = omega arith in
+    let s = c.args.self.now in
+    let many : s.processes * c.args.number + s.processes - s.processes * c.args.number ≡ s.processes = omega arith in
     let a = c.put_fields-at.ensures in
     let b = c.put_stamp-at.ensures in
     let d = c.put_last-at.ensures in
