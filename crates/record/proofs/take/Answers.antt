@@ -10,7 +10,7 @@ word : (c : goal.Start) → c.args.mask < 2 ^ 32
 word c = omega (arith, c.ranges.mask)
 
 room : (c : goal.In-Some) → c.loop-k.next < length c.args.values.now
-room c = omega (arith, c.requires.2, value_below c.loop-k.invariant (word (goal.at.In-Some c).Start) c.in-Some.ensures.steps)
+room c = omega (arith, c.requires, value_below c.loop-k.invariant (word (goal.at.In-Some c).Start) c.in-Some.ensures.steps)
 
 pub loop-k-init : goal.loop-k-init
 loop-k-init c = rw c.into_iter-k-iterator.ensures.into_iter_gives (taken_start _ _ _ _ _)
@@ -32,6 +32,6 @@ loop-k-preserved c =
     elim c.if-running-k.branch [ then-running-k g ↦ rw g.running-is (taken_grew u m s g.if-running-k.true) | else-running-k g ↦ rw g.running-is (taken_kept u m s g.if-running-k.false) ]
 
 pub returns : goal.returns
-returns c =
-    taken_end c.loop-k.invariant (word (goal.at.returns c).Start) (record { clock = omega arith; updated = omega arith; sent = omega arith })
-    c.requires.0 c.count-own.ensures.0 c.count-own.ensures.1 c.in-None.ensures.steps
+returns c p e =
+    taken_end c.loop-k.invariant (word (goal.at.returns c).Start) p (record { clock = omega arith; updated = omega arith; sent = omega arith })
+    e c.in-None.ensures.steps
