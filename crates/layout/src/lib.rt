@@ -8,6 +8,7 @@ ghost use Rattle.course.specs.Said.{work};
 ghost use Rattle.layout.specs.Said.{Writes};
 
 use clock::{Refusal, Terms};
+use store::Listed;
 
 // What is written: how many events, and how many bytes.
 #[derive(Clone, Copy, Debug, PartialEq, Eq)]
@@ -30,5 +31,5 @@ pub fn write(
         result (work clocks.new masks.new values.new) out.new }
 {
     course::strict(terms, list, clocks, masks, values)?;
-    store::written(terms, list, clocks, masks, values, out)
+    Listed { terms, list }.written(clocks, masks, values, out)
 }

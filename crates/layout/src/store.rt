@@ -50,87 +50,88 @@ fn put_stamps(out: &mut [u8], at: usize, stamps: Stamps) -> usize
     to
 }
 
-// The letters, the process count, the version and two zeros.
-fn put_start(out: &mut [u8], terms: Terms) -> usize
-    requires { terms.processes < 256 }
-    ensures { Appended out.old 0 (text "CKT" ++ (terms.processes ∷ []) ++ two_bytes terms.version ++ two_bytes 0) result out.new }
-{
-    let n = terms.processes as u8;
-    let a = put_all(out, 0, b"CKT");
-    let b = put(out, a, n);
-    let c = put_two(out, b, terms.version);
-    put_two(out, c, 0)
+// A list that the strict course has accepted, with its terms.
+#[derive(Clone, Copy)]
+pub(crate) struct Listed<'a> {
+    pub terms: Terms,
+    pub list: &'a [u8],
+    ghost few: { terms.processes < 256 },
+    ghost short: { length list.now ≤ 4096 },
 }
 
-// Offset and size of the two parts.
-fn put_parts(out: &mut [u8], at: usize, events: usize, stamped: usize) -> usize
-    requires { events ≤ 4096 }
-    ensures { Appended out.old at (four_bytes 24 ++ four_bytes events ++ four_bytes (24 + events) ++ four_bytes stamped) result out.new }
-{
-    let a = put_four(out, at, 24);
-    let b = put_four(out, a, events);
-    let c = put_four(out, b, 24 + events);
-    put_four(out, c, stamped)
-}
-
-fn put_header(out: &mut [u8], terms: Terms, events: usize, stamped: usize) -> usize
-    requires { (terms.processes < 256) × (events ≤ 4096) }
-    ensures { Appended out.old 0 (header (stated terms) events stamped) result out.new }
-{
-    let at = put_start(out, terms);
-    put_parts(out, at, events, stamped)
-}
-
-// How many bytes the stamps take: 4 for each send, and 2 for each value.
-pub(crate) fn stamps_size(list: &[u8], masks: &[u32]) -> usize
-    requires { (how_many list.now ≤ length masks.now) × (length list.now ≤ 4096) }
-    ensures { (result ≡ slot_size list.now masks.now) × (result ≤ 34816) }
-{
-    let mut size = 0;
-    for i in 0..list.len() / 8 {
-        size += piece_size(kind_at(list, Position(i)), masks[i]);
+impl<'a> Listed<'a> {
+    // The letters, the process count, the version and two zeros.
+    fn put_start(self, out: &mut [u8]) -> usize
+        ensures { Appended out.old 0 (text "CKT" ++ (self.entry.terms.processes ∷ []) ++ two_bytes self.entry.terms.version ++ two_bytes 0) result out.new }
+    {
+        let n = self.terms.processes as u8;
+        let a = put_all(out, 0, b"CKT");
+        let b = put(out, a, n);
+        let c = put_two(out, b, self.terms.version);
+        put_two(out, c, 0)
     }
-    size
-}
 
-// The whole sheet, whose stamps take `stamped` bytes: the events at 24, the stamps straight after.
-pub(crate) fn put_sheet(
-    out: &mut [u8],
-    terms: Terms,
-    list: &[u8],
-    stamps: Stamps,
-    stamped: usize,
-) -> usize
-    requires { (terms.processes < 256) × (length list.now ≤ 4096) × (stamped ≡ length (left_bytes stamps)) }
-    ensures { Appended out.old 0 (sheet_of (stated terms) list.now (left_bytes stamps.entry)) result out.new }
-{
-    let a = put_header(out, terms, list.len(), stamped);
-    let b = put_all(out, a, list);
-    put_stamps(out, b, stamps)
-}
-
-// 21, or the sheet of a list whose stamps stand in the work buffers.
-pub(crate) fn written(
-    terms: Terms,
-    list: &[u8],
-    clocks: &mut [u16],
-    masks: &mut [u32],
-    values: &mut [u16],
-    out: &mut [u8],
-) -> Result<Written, Refusal>
-    requires { (terms.processes < 256) × Slots list.now masks.old values.old × (length list.now ≤ 4096) }
-    ensures { ((wrote result, work clocks.new masks.new values.new), out.new)
-        ≡ laying (stated terms) list.now (work clocks.old masks.old values.old) out.old }
-{
-    let stamped = stamps_size(list, masks);
-    let size = 24 + list.len() + stamped;
-    if out.len() < size {
-        course::clear(terms.processes, list.len() / 8, clocks, masks, values);
-        return Err(Refusal::from(Check::Output));
+    // Offset and size of the two parts, of which the stamps take `stamped` bytes.
+    fn put_parts(self, out: &mut [u8], at: usize, stamped: usize) -> usize
+        ensures { Appended out.old at (four_bytes 24 ++ four_bytes (length self.entry.list.now) ++ four_bytes (24 + length self.entry.list.now)
+            ++ four_bytes stamped) result out.new }
+    {
+        let events = self.list.len();
+        let a = put_four(out, at, 24);
+        let b = put_four(out, a, events);
+        let c = put_four(out, b, 24 + events);
+        put_four(out, c, stamped)
     }
-    put_sheet(out, terms, list, Stamps::of(list, masks, values), stamped);
-    Ok(Written {
-        events: list.len() / 8,
-        bytes: size,
-    })
+
+    fn put_header(self, out: &mut [u8], stamped: usize) -> usize
+        ensures { Appended out.old 0 (header (stated self.entry.terms) (length self.entry.list.now) stamped) result out.new }
+    {
+        let at = self.put_start(out);
+        self.put_parts(out, at, stamped)
+    }
+
+    // How many bytes the stamps take: 4 for each send, and 2 for each value.
+    fn stamps_size(self, masks: &[u32]) -> usize
+        requires { how_many self.list.now ≤ length masks.now }
+        ensures { (result ≡ slot_size self.entry.list.now masks.now) × (result ≤ 34816) }
+    {
+        let mut size = 0;
+        for i in 0..self.list.len() / 8 {
+            size += piece_size(kind_at(self.list, Position(i)), masks[i]);
+        }
+        size
+    }
+
+    // The whole sheet: the events at 24, the stamps straight after.
+    fn put_sheet(self, out: &mut [u8], stamps: Stamps, stamped: usize) -> usize
+        requires { stamped ≡ length (left_bytes stamps) }
+        ensures { Appended out.old 0 (sheet_of (stated self.entry.terms) self.entry.list.now (left_bytes stamps.entry)) result out.new }
+    {
+        let a = self.put_header(out, stamped);
+        let b = put_all(out, a, self.list);
+        put_stamps(out, b, stamps)
+    }
+
+    // 21, or the sheet of the list, whose stamps stand in the work buffers.
+    pub(crate) fn written(
+        self,
+        clocks: &mut [u16],
+        masks: &mut [u32],
+        values: &mut [u16],
+        out: &mut [u8],
+    ) -> Result<Written, Refusal>
+        requires { Slots self.list.now masks.old values.old }
+        ensures { ((wrote result, work clocks.new masks.new values.new), out.new)
+            ≡ laying (stated self.entry.terms) self.entry.list.now (work clocks.old masks.old values.old) out.old }
+    {
+        let events = self.list.len() / 8;
+        let stamped = self.stamps_size(masks);
+        let bytes = 24 + self.list.len() + stamped;
+        if out.len() < bytes {
+            course::clear(self.terms.processes, events, clocks, masks, values);
+            return Err(Refusal::from(Check::Output));
+        }
+        self.put_sheet(out, Stamps::of(self.list, masks, values), stamped);
+        Ok(Written { events, bytes })
+    }
 }

@@ -14,11 +14,18 @@ stands : (c : goal.In_ok-strict) → let a = c.args in let t = c.strict.new in
     Stands (stated a.terms) a.list.now (work a.clocks.now a.masks.now a.values.now) (work t.clocks t.masks t.values)
 stands c = accepted c.in_ok-strict.ensures
 
+pub invariant_of-written-clause-few : goal.invariant_of-written-clause-few
+invariant_of-written-clause-few c =
+    let s = stands (goal.at.invariant_of-written-clause-few c).In_ok-strict in
+    omega (arith, s.held.listed.processes.1)
+
+pub invariant_of-written-clause-short : goal.invariant_of-written-clause-short
+invariant_of-written-clause-short c =
+    let (m, few, size) = (stands (goal.at.invariant_of-written-clause-short c).In_ok-strict).held.listed.whole_records in
+    omega arith
+
 pub written-requires : goal.written-requires
-written-requires c =
-    let s = stands (goal.at.written-requires c).In_ok-strict in
-    let (m, few, size) = s.held.listed.whole_records in
-    (omega (arith, s.held.listed.processes.1), slots_there s, omega arith)
+written-requires c = slots_there (stands (goal.at.written-requires c).In_ok-strict)
 
 pub returns-in_err-strict : goal.returns-in_err-strict
 returns-in_err-strict c =

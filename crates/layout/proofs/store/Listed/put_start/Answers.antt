@@ -1,7 +1,7 @@
 -- Four pieces, one behind the other.
 use Rattle.paper.specs.Bytes.{text}
 use Rattle.octets.proofs.Appended.{join}
-use Rattle.layout.proofs.store.put_start.Goals as goal
+use Rattle.layout.proofs.store.Listed.put_start.Goals as goal
 
 pub returns : goal.returns
 unfolding text

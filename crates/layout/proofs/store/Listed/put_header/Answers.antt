@@ -2,7 +2,7 @@
 use Rattle.paper.specs.Bytes.{two_bytes, four_bytes, text}
 use Rattle.paper.specs.Sheet.{header}
 use Rattle.octets.proofs.Appended.{join}
-use Rattle.layout.proofs.store.put_header.Goals as goal
+use Rattle.layout.proofs.store.Listed.put_header.Goals as goal
 
 pub returns : goal.returns
 unfolding header text two_bytes four_bytes
