@@ -6,6 +6,7 @@ ghost use Rattle.clock.specs.Event.{kind_at, process_at, peer_at, message_at};
 use super::{Message, Position, Process};
 use octets::read::{byte_at, two_at};
 
+// Bytes and no enum: a damaged list has kinds that are none of the three, and `kind_at` tells each.
 pub const INTERNAL: u8 = 0;
 
 pub const SEND: u8 = 1;
