@@ -5,7 +5,7 @@ ghost use Rattle.percentage.specs.Said.{counts};
 ghost use Rattle.savings.specs.Answer.{counts_line, savings_answer};
 
 use desk::PAGE;
-use percentage::{Counted, Counts};
+use percentage::Counts;
 
 // The line of counts: the hundredths come from whole numbers alone.
 fn counts_text(c: Counts, out: &mut [u8; PAGE]) -> usize
@@ -24,12 +24,9 @@ fn counts_text(c: Counts, out: &mut [u8; PAGE]) -> usize
 pub fn savings_answer(sheet: &[u8], out: &mut [u8; PAGE]) -> usize
     ensures { Printed out.old (savings_answer sheet.now) result out.new }
 {
-    let mut clocks = [0u16; 16384];
-    let mut masks = [0u32; 512];
-    let mut values = [0u16; 16384];
-    let c = percentage::count(sheet, &mut clocks, &mut masks, &mut values);
-    match c {
-        Counted::Refused(r) => lines::refusal_text(r, out),
-        Counted::Done(k) => counts_text(k, out),
+    let mut work = desk::WORK;
+    match percentage::count(sheet, &mut work.clocks, &mut work.masks, &mut work.values) {
+        Err(r) => lines::refusal_text(r, out),
+        Ok(c) => counts_text(c, out),
     }
 }

@@ -15,11 +15,7 @@ fn run<R: Read, W: Write>(from: &mut R, to: &mut W) -> io::Result<()>
     ensures { OnOk result (IfSome (R.remaining from.old) (λ sheet. Appends (W.contents to.old) (W.contents to.new) (savings_answer sheet))) }
 {
     // One byte more than the longest sheet, so that a longer one is refused.
-    let mut sheet = [0u8; 40961];
-    let size = desk::read_full(from, &mut sheet)?;
-    let mut page = [0u8; desk::PAGE];
-    let length = answer::savings_answer(&sheet[..size], &mut page);
-    desk::print(to, &page, length)
+    desk::serve::<40961, _, _, _>(from, to, answer::savings_answer)
 }
 
 fn main(rt: HostRuntime) -> io::Result<()> {

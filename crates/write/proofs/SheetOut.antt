@@ -13,6 +13,7 @@ use Rattle.paper.specs.Buffers.{Work, ample}
 use Rattle.paper.specs.Event.{how_many}
 use Rattle.paper.specs.Listing.{refusal_line}
 use Rattle.paper.specs.Questions.{Written, strict_checks, writing_checks, writing}
+use Rattle.std.specs.Prelude.{Ok, Err}
 use Rattle.paper.specs.Refusals.{first, Refusal, of_call, Checks, refusal_of, after, Outcome, refused, done}
 use Rattle.paper.specs.Sheet.{written}
 use Rattle.paper.specs.Stands.{no_further}
@@ -27,7 +28,6 @@ use Rattle.paper.proofs.Sheets.Sizes.{stamps_short}
 use Rattle.lines.specs.Text.{Printed}
 use Rattle.write.specs.Answer.{write_answer}
 use Rattle.write.specs.Said.{Stands}
-use Rattle.write.specs.declared.answer.Written.TheVariants as page
 
 -- A refusal leaves the output as it was.
 kept : (c : Checks) (left old : List ℕ) → (refusal_of c).number ≢ 0 → after c left old old ≡ old
@@ -72,18 +72,18 @@ module _ (t : Terms) (list : List ℕ) where
 
       pub write_refused :
           (r : Refusal) (k : ℕ) (last : List ℕ) → ((refused r, left), new) ≡ writing t list ample old → Printed new (refusal_line r) k last
-          → Stands old (write_answer t list) (page.Line k) last
+          → Stands old (write_answer t list) (Err k) last
       unfolding writing write_answer
       write_refused r k last e p =
           let (z, q) = is_refused (refusal_of (writing_checks t list ample old)) _ r (ap (λ (x : Ends). x.0.0) e) in
           let (number, same) = refused_so z in
           let untouched : new ≡ old = ap (λ (x : Ends). x.1) e ∙ kept (writing_checks t list ample old) _ old z in
           let answer : refused r ≡ write_answer t list = ap refused (q ∙ same) ∙ rw (ne_eqb (refusal_of checks).number 0 number) in
-          subst (λ o. Stands old o (page.Line k) last) answer (subst (λ (l : List ℕ). Printed l (refusal_line r) k last) untouched p)
+          subst (λ o. Stands old o (Err k) last) answer (subst (λ (l : List ℕ). Printed l (refusal_line r) k last) untouched p)
 
       pub write_done :
           (x : Written) → ((done x, left), new) ≡ writing t list ample old
-          → Stands old (write_answer t list) (page.Sheet x.bytes) new
+          → Stands old (write_answer t list) (Ok x.bytes) new
       unfolding writing write_answer
       write_done x e =
           let c = writing_checks t list ample old in
@@ -93,7 +93,7 @@ module _ (t : Terms) (list : List ℕ) where
           let none : (refusal_of checks).number ≡ 0 = (list_accepted t list ample []).1 (given, (room, no_further)) in
           let size : x.bytes ≡ length xs = ap (λ (y : Written). y.bytes) (sym same) in
           let answer : done xs ≡ write_answer t list = sym ((is_done (refusal_of checks) xs xs).1 (none, refl)) in
-          subst (λ o. Stands old o (page.Sheet x.bytes) new) answer
+          subst (λ o. Stands old o (Ok x.bytes) new) answer
           (record {
             size = size;
             bytes = ap (λ (y : Ends). y.1) e ∙ after_done c _ old old early late ∙ sym (laid_front xs old inside);

@@ -5,25 +5,21 @@ ghost use Rattle.write.specs.Said.{Stands};
 
 use clock::Terms;
 use desk::PAGE;
-use layout::Wrote;
 
-// What `write` is to print, and how many bytes: a sheet on standard output, or a refusal's line on standard error.
-#[derive(Clone, Copy)]
-pub enum Written {
-    Sheet(usize),
-    Line(usize),
-}
-
-// What `write` prints of a list that is lent directly.
-pub fn write_answer(terms: Terms, list: &[u8], out: &mut [u8; PAGE]) -> Written
+// What `write` prints of a list that is lent directly, and how many bytes: a sheet on standard output, or as an error a refusal's line on standard error.
+pub fn write_answer(terms: Terms, list: &[u8], out: &mut [u8; PAGE]) -> Result<usize, usize>
     ensures { Stands out.old (write_answer (stated terms) list.now) result out.new }
 {
-    let mut clocks = [0u16; 16384];
-    let mut masks = [0u32; 512];
-    let mut values = [0u16; 16384];
-    let w = layout::write(terms, list, &mut clocks, &mut masks, &mut values, out);
-    match w {
-        Wrote::Refused(r) => Written::Line(lines::refusal_text(r, out)),
-        Wrote::Done(_, bytes) => Written::Sheet(bytes),
+    let mut work = desk::WORK;
+    match layout::write(
+        terms,
+        list,
+        &mut work.clocks,
+        &mut work.masks,
+        &mut work.values,
+        out,
+    ) {
+        Ok(w) => Ok(w.bytes),
+        Err(r) => Err(lines::refusal_text(r, out)),
     }
 }

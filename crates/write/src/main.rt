@@ -8,9 +8,7 @@ ghost use Rattle.write.specs.Streams.{Prints};
 
 mod answer;
 
-use answer::Written;
 use clock::Terms;
-use number::Number;
 use std::io;
 use std::io::{Read, Write};
 
@@ -24,18 +22,19 @@ fn run<R: Read, W: Write, E: Write>(
     ensures { OnOk result (IfSome (R.remaining from.old) (λ list. Prints (write_answer (stated terms) list)
         (W.contents out.old) (W.contents out.new) (E.contents err.old) (E.contents err.new))) }
 {
-    // One byte more than the longest list, so that a longer one is refused.
-    let mut list = [0u8; 4097];
-    let size = desk::read_full(from, &mut list)?;
     let mut page = [0u8; desk::PAGE];
-    match answer::write_answer(terms, &list[..size], &mut page) {
-        Written::Sheet(length) => desk::print(out, &page, length),
-        Written::Line(length) => desk::print(err, &page, length),
+    // One byte more than the longest list, so that a longer one is refused.
+    let written = desk::answer_on::<4097, _, _, _>(from, &mut page, |list, page| {
+        answer::write_answer(terms, list, page)
+    })?;
+    match written {
+        Ok(length) => desk::print(out, &page, length),
+        Err(length) => desk::print(err, &page, length),
     }
 }
 
 fn main(rt: HostRuntime) -> io::Result<()> {
-    let Number::Is(n) = desk::argument(&rt, 1) else {
+    let Some(n) = desk::argument(&rt, 1) else {
         return eprintln!(rt; "usage: write PROCESSES < LIST");
     };
     run(

@@ -1,17 +1,18 @@
+use Rattle.std.proofs.Common.{rules}
 use Rattle.clock.specs.Said.{stated}
 use Rattle.write.specs.Answer.{write_answer}
 use Rattle.write.proofs.Whole.{enough}
 use Rattle.write.proofs.Streamed.{sheet_printed, line_printed}
 use Rattle.write.proofs.run.Goals as goal
 
-pub returns-in-Sheet : goal.returns-in-Sheet
-returns-in-Sheet g c =
+pub returns-in-Ok : goal.returns-in-Ok
+returns-in-Ok g c =
     let t = stated c.args.terms in
-    sheet_printed (write_answer t) 4097 _ (enough t) _ _ _ _ _ _ _ _ _ c.read_full.auto.buf c.in_ok-size.ensures.bytes c.in-Sheet.ensures
-    c.write_answer.array_long c.print.ensures.fits
+    sheet_printed _ _ (write_answer t) 4097 (enough t) _ _ _ _ _ _ _ _ _ c.in_ok-written.ensures c.in-Ok.is c.answer_on.array_long
+    c.print.ensures.fits (λ lent shown left r q. search rules)
 
-pub returns-in-Line : goal.returns-in-Line
-returns-in-Line g c =
+pub returns-in-Err : goal.returns-in-Err
+returns-in-Err g c =
     let t = stated c.args.terms in
-    line_printed (write_answer t) 4097 _ (enough t) _ _ _ _ _ _ _ _ _ c.read_full.auto.buf c.in_ok-size.ensures.bytes c.in-Line.ensures
-    c.write_answer.array_long c.print-in-Line.ensures.fits
+    line_printed _ _ (write_answer t) 4097 (enough t) _ _ _ _ _ _ _ _ _ c.in_ok-written.ensures c.in-Err.is c.answer_on.array_long
+    c.print-in-Err.ensures.fits (λ lent shown left r q. search rules)

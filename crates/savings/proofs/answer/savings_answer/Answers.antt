@@ -5,10 +5,10 @@ use Rattle.desk.proofs.Printed.{printed_as}
 use Rattle.savings.proofs.answer.savings_answer.Goals as goal
 
 pub counts_text-requires : goal.counts_text-requires
-counts_text-requires c = count_bounds _ _ c.in-Done.ensures
+counts_text-requires c = count_bounds _ _ c.in-Ok.ensures
 
-pub returns-in-Refused : goal.returns-in-Refused
-returns-in-Refused c = printed_as (line_of _ _ _ c.in-Refused.ensures) c.refusal_text.ensures
+pub returns-in-Err : goal.returns-in-Err
+returns-in-Err c = printed_as (line_of _ _ _ c.in-Err.ensures) c.refusal_text.ensures
 
-pub returns-in-Done : goal.returns-in-Done
-returns-in-Done c = printed_as (line_of _ _ _ c.in-Done.ensures) c.counts_text.ensures
+pub returns-in-Ok : goal.returns-in-Ok
+returns-in-Ok c = printed_as (line_of _ _ _ c.in-Ok.ensures) c.counts_text.ensures
