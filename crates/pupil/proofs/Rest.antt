@@ -131,22 +131,3 @@ module _ (b lines : List ℕ) (w : Work) (out : List ℕ) where
 
       pub mark_rest : {x : (Outcome Marked × Work) × List ℕ} → x ≡ marking_rest t.processes (size / 8) lines w' out → x ≡ marking b lines w out
       mark_rest e = e ∙ sym (ap₂ (λ (u : Terms) (k : ℕ). marking_rest u.processes k lines w' out) s.terms s.many) ∙ rest_is
-
--- What is left to do, by its two cases.
-module _ (n m : ℕ) (lines : List ℕ) (w : Work) (out : List ℕ) where
-  pub rest_late :
-      {given : Refusal} {w' : Work} → length out < line_count lines → given ≡ of_call 21 → w' ≡ wiped n m w
-      → ((refused given, w'), out) ≡ marking_rest n m lines w out
-  rest_late h g e = rw (lt-ltb (length out) (line_count lines) h) (λ i. ((refused (g i), e i), out))
-
-  pub rest_done :
-      {t : ℕ} {out' : List ℕ} → line_count lines ≤ length out → t ≡ row_total n m w.clocks lines (line_count lines)
-      → out' ≡ sets out 0 (row_marks n m w.clocks lines (line_count lines))
-      → ((done (record { total = t; lines = line_count lines }), w), out') ≡ marking_rest n m lines w out
-  rest_done h e o =
-      rw (le-ltb (length out) (line_count lines) h) (λ i. ((done (record { total = e i; lines = line_count lines }), w), o i))
-
--- Lines that are not refused are at most 1200 bytes.
-pub short_lines : (lines : List ℕ) → wrong_lines lines ≡ false → length lines ≤ 1200
-short_lines lines h =
-    ((neither (not (eqb (length lines % 6) 0)) (ltb 1200 (length lines)) (equal (length lines % 6) 0) (not_below 1200 (length lines))).0 h).1

@@ -1,13 +1,9 @@
 -- The refusals by the count of processes and by the rows, and the verdict on the two rows lent as clocks.
-use Prim.Native.Nat.{◌+◌, ◌*◌, ◌≤◌}
-use native.Mathlib.Omega.{arith}
 use mathlib.Core.Path.{◌≡◌, sym, ◌∙◌}
 use mathlib.Core.Bool.{false}
-use lib.ListN.{length}
 use Rattle.paper.specs.Terms.{wrong_count}
-use Rattle.paper.proofs.Sheets.Checks.{right_count}
 use Rattle.order.specs.Judge.{rows, not_both}
-use Rattle.order.proofs.Judging.{judge_count, judge_none, rows_there, judge_rows}
+use Rattle.order.proofs.Judging.{judge_count, judge_none, judge_rows}
 use Rattle.order.proofs.judge.Goals as goal
 use Rattle.order.proofs.judge.Goals.{Else-is_wrong_count, Else-is_past}
 
@@ -17,27 +13,11 @@ right c = sym c.is_wrong_count.ensures ∙ c.if-is_wrong_count.false
 both : (c : goal.Else-is_past) → let a = c.args in not_both (rows a.n a.clocks.now) a.first.0 a.second.0 ≡ false
 both c = sym c.is_past.ensures ∙ c.if-is_past.false
 
-there :
-    (c : goal.Else-is_past) → let a = c.args in
-    (a.n * a.first.0 + a.n ≤ length a.clocks.now) × (a.n * a.second.0 + a.n ≤ length a.clocks.now)
-there c =
-    let a = c.args in
-    rows_there a.n a.clocks.now a.first.0 a.second.0 (right (goal.at.Else-is_past c).Else-is_wrong_count) (both c)
-
 pub returns-then-is_wrong_count : goal.returns-then-is_wrong_count
 returns-then-is_wrong_count c = judge_count _ _ _ _ (sym c.is_wrong_count.ensures ∙ c.if-is_wrong_count.true) c.from.ensures
 
-pub nonzero_div-rows : goal.nonzero_div-rows
-nonzero_div-rows c = omega (arith, (right_count c.args.n).0 (right (goal.at.nonzero_div-rows c).Else-is_wrong_count))
-
 pub returns-then-is_past : goal.returns-then-is_past
 returns-then-is_past c = judge_none _ _ _ _ (right (goal.at.returns-then-is_past c).Else-is_wrong_count) (sym c.is_past.ensures ∙ c.if-is_past.true) c.from-then-is_past.ensures
-
-pub row-requires : goal.row-requires
-row-requires c = (there (goal.at.row-requires c).Else-is_past).0
-
-pub row-requires-2 : goal.row-requires-2
-row-requires-2 c = (there (goal.at.row-requires-2 c).Else-is_past).1
 
 pub returns : goal.returns
 returns c =

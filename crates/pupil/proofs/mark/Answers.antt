@@ -4,7 +4,7 @@ use Rattle.std.proofs.lemmas.Result.{err_from_is_err_and}
 use Rattle.clock.specs.Said.{stated}
 use Rattle.course.specs.Said.{work}
 use Rattle.sheet.proofs.Accepted.{Accepted, accepted}
-use Rattle.pupil.proofs.Rest.{short_lines, mark_30, mark_refused, mark_rest}
+use Rattle.pupil.proofs.Rest.{mark_30, mark_refused, mark_rest}
 use Rattle.pupil.proofs.mark.Goals as goal
 use Rattle.pupil.proofs.mark.Goals.{In_ok-read}
 
@@ -18,9 +18,6 @@ pub returns-then-lines : goal.returns-then-lines
 returns-then-lines c =
     let a = c.args in
     mark_30 a.sheet.now a.lines.now (work a.clocks.now a.masks.now a.values.now) a.marks.now c.if-lines.true c.from.ensures
-
-pub marking-requires : goal.marking-requires
-marking-requires c = short_lines c.args.lines.now c.if-lines.false
 
 pub returns-in_err-read : goal.returns-in_err-read
 returns-in_err-read c =

@@ -34,9 +34,6 @@ returns-then-eq t c =
     let s = c.requires in
     stops s.0 s.1 _ (sym c.process_at-q.ensures ∙ eqb-true c.process_at-q.result.0 c.process_at-p.result.0 (sym c.eq.ensures ∙ c.if-eq.true) ∙ c.process_at-p.ensures)
 
-pub learner-r-requires : goal.learner-r-requires
-learner-r-requires t c = let s = c.requires in (s.0, s.1, apart t (goal.at.learner-r-requires t c).Else-eq)
-
 pub sender-s-requires : goal.sender-s-requires
 sender-s-requires t c =
     let s = c.requires in
@@ -48,9 +45,6 @@ walk-k-requires t c =
     let places = goal.at.walk-k-requires t c in
     let before = earlier s.0 s.1 (apart t places.Else-eq) c.learner-r.ensures c.message_at.ensures c.sender-s.ensures in
     (omega (arith, before), (s.0, sent_onward t places.After-sender-s, s.2))
-
-pub overflow_cast-out : goal.overflow_cast-out
-overflow_cast-out t c = let h = c.sender-s.ensures in omega (arith, h.inside, h.brief)
 
 pub offset_bounds-out-k : goal.offset_bounds-out-k
 offset_bounds-out-k t c = omega (arith, slot_for_it t (goal.at.offset_bounds-out-k t c).After-walk-k)
