@@ -89,7 +89,7 @@ fn fits(n: usize, list: &[u8], clocks: &[u16], masks: &[u32]) -> bool
     (n * events <= clocks.len()) & (events <= masks.len())
 }
 
-// I, S, R.
+// I, S, R; no list is judged here, so the last stands for every other byte too.
 fn letter(kind: u8) -> u8
     ensures { result ≡ kind_letter kind }
 {

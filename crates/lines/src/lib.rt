@@ -1,4 +1,5 @@
 // The texts that the programs print, built in a lent buffer. A byte behind the buffer's end is no byte of it: the text is cut there.
+// Public promises: each text names what is lent part by part.
 #![tactic(auto)]
 
 ghost use Rattle.std.specs.Prelude.{◌≡◌};

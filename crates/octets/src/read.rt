@@ -1,4 +1,5 @@
 // Little-endian numbers read from any place: a byte behind the end is 0.
+// Two sizes with a type of result each: one function for both would be no plainer.
 ghost use Rattle.std.specs.Prelude.{◌≡◌, ◌<◌, ◌^◌};
 ghost use Rattle.paper.specs.Bytes.{byte, two, four};
 

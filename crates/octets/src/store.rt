@@ -1,4 +1,5 @@
 // Bytes stored from the place `at` on: each function gives the place behind them. A store behind the end is no store.
+// Public promises: each names the slice and the place by themselves, and what two and four bytes hold.
 ghost use Rattle.std.specs.Prelude.{◌≡◌, ◌∷◌, [], ◌%◌};
 ghost use Rattle.paper.specs.Bytes.{two_bytes, four_bytes};
 ghost use Rattle.octets.specs.Appended.{Appended};
