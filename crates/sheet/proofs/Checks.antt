@@ -13,7 +13,7 @@ use Rattle.paper.specs.Reading.{header_checks}
 use Rattle.paper.specs.Refusals.{Refusal, of_call, refused, outcome}
 use Rattle.paper.specs.Terms.{wrong_count}
 use Rattle.paper.proofs.Laws.Refused as paper
-use Rattle.sheet.specs.Header.{in_turn, parts_in, wrong_length, wrong_letters, wrong_version, wrong_zeros, wrong_list, wrong_stamps, Lies}
+use Rattle.sheet.specs.Header.{in_turn, wrong_length, wrong_letters, wrong_version, wrong_zeros, wrong_list, wrong_stamps, Lies}
 use Rattle.sheet.specs.declared.header.Parts.{Parts}
 
 -- The letters CKT.
@@ -43,9 +43,6 @@ module _ {b : List ℕ} {p : Parts} (l : Lies b p) where
       (wrong_stamps (length b) p.list p.stamps) 0
   unfolding header_checks
   in_order = rw (l.processes, l.list.offset, l.list.size, l.stamps.offset, l.stamps.size)
-
-  pub same_parts : p ≡ parts_in b
-  same_parts = rw (← l.version, ← l.processes, ← l.present, ← l.list.offset, ← l.list.size, ← l.stamps.offset, ← l.stamps.size)
 
 -- What the answer says: the number that refuses; of what is found, `is_done` of the paper.
 pub is_refused : {A : Type 0} (a : A) (r n : ℕ) → refused (of_call r) ≡ outcome (of_call n) a → (n ≡ r) × (n ≢ 0)
