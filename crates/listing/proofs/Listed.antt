@@ -1,5 +1,6 @@
 -- The text that is printed for each case of a reading is the text of its outcome.
 use Prim.Native.Nat.{ℕ, ◌+◌, ◌-◌}
+use Rattle.std.specs.Prelude.{Bool, true, false, cond}
 use mathlib.Core.List.{List, [], ◌∷◌}
 use mathlib.Core.Path.{◌≡◌, refl, sym, ap, ◌∙◌}
 use native.Mathlib.Omega.{arith}
@@ -43,6 +44,10 @@ module _ (b : List ℕ) {after : Work} {r : Refusal} (e : (refused r, after) ≡
   pub lamport_refused : refusal_line r ≡ listing_lamport_answer b
   unfolding listing_lamport_answer
   lamport_refused = line lamport_listed ∙ as_asked lamport_listed b
+
+  pub either_refused : (lamport : Bool) → refusal_line r ≡ cond lamport (listing_lamport_answer b) (listing_answer b)
+  either_refused lamport =
+      elim lamport as (λ x. refusal_line r ≡ cond x (listing_lamport_answer b) (listing_answer b)) [ true ↦ lamport_refused | false ↦ listing_refused ]
 
 module _ {b : List ℕ} {after : Work} {t : Terms} {at size carried : ℕ} (s : Accepted b ample after t at size carried) where
   abbrev lent : List ℕ

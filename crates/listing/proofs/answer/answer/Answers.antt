@@ -6,9 +6,9 @@ use Rattle.course.specs.Said.{work}
 use Rattle.paper.specs.Buffers.{ample}
 use Rattle.sheet.proofs.Accepted.{Accepted, accepted}
 use Rattle.desk.proofs.Printed.{printed_as}
-use Rattle.listing.proofs.Listed.{as_read, lamport_refused, lamport_done}
-use Rattle.listing.proofs.answer.listing_lamport_answer.Goals as goal
-use Rattle.listing.proofs.answer.listing_lamport_answer.Goals.{In-Ok}
+use Rattle.listing.proofs.Listed.{as_read, either_refused, listing_done, lamport_done}
+use Rattle.listing.proofs.answer.answer.Goals as goal
+use Rattle.listing.proofs.answer.answer.Goals.{In-Ok}
 
 -- The sheet is accepted with those contents.
 sheet_accepted :
@@ -23,7 +23,13 @@ pub slice_bounds-list-end : goal.slice_bounds-list-end
 slice_bounds-list-end c = omega (arith, (sheet_accepted (goal.at.slice_bounds-list-end c).In-Ok).inside)
 
 pub returns-in-Err : goal.returns-in-Err
-returns-in-Err c = printed_as (lamport_refused _ (as_read c.args.sheet.now c.in-Err.ensures.numbers)) c.refusal_text.ensures
+returns-in-Err c = printed_as (either_refused _ (as_read c.args.sheet.now c.in-Err.ensures.numbers) c.args.lamport) c.refusal_text.ensures
 
-pub returns-in-Ok : goal.returns-in-Ok
-returns-in-Ok c = printed_as (lamport_done (sheet_accepted (goal.at.returns-in-Ok c).In-Ok) c.in-Ok.ensures.numbers) c.listing_lamport_text.ensures
+pub returns-then-lamport : goal.returns-then-lamport
+returns-then-lamport c =
+    rw c.if-lamport.true
+    (printed_as (lamport_done (sheet_accepted (goal.at.returns-then-lamport c).In-Ok) c.in-Ok.ensures.numbers) c.listing_lamport_text.ensures)
+
+pub returns-else-lamport : goal.returns-else-lamport
+returns-else-lamport c =
+    rw c.if-lamport.false (printed_as (listing_done (sheet_accepted (goal.at.returns-else-lamport c).In-Ok)) c.listing_text.ensures)
