@@ -6,7 +6,7 @@ use Rattle.clock.specs.Said.{told}
 use Rattle.clock.specs.declared.Refusal as declared
 use Rattle.paper.specs.Buffers.{Work}
 use Rattle.paper.specs.Refusals.{Outcome}
-use Rattle.oboefinch.specs.Packed.{Fields, Small, packed, fields, answered, with_work, with_output, with_two}
+use Rattle.oboefinch.specs.Packed.{Fields, Small, packed, fields, answered, with_work, with_output}
 
 -- The fields x are those of what was given, p.
 pub record Tells {A : Type 0} (told : A → Fields) (x : Fields) (p : Outcome A) : Type 0 where
@@ -23,9 +23,6 @@ module _ {A : Type 0} {g : A → Fields} {x : Fields} {p : Outcome A} (t : Tells
 
   as_given : {k : ℕ} → k ≡ packed x → k ≡ answered g p
   as_given h = h ∙ ap packed t.is
-
-  pub answer_alone : {o : Outcome A} → p ≡ o → {k : ℕ} → k ≡ packed x → k ≡ answered g o
-  answer_alone e h = as_given h ∙ ap (answered g) e
 
   module _ {w : Work} {o : Outcome A × Work} (e : (p, w) ≡ o) where
     pub small_work : Small (fields g o.0) → Small x
@@ -44,6 +41,3 @@ module _ {A : Type 0} {g : A → Fields} {x : Fields} {p : Outcome A} (t : Tells
   module _ {B C : Type 0} {w : Work} {out : B} {further : C} {o : (Outcome A × Work) × B × C} (e : ((p, w), out, further) ≡ o) where
     pub small_two : Small (fields g o.0.0) → Small x
     small_two s = small_alone (ap (λ (q : (Outcome A × Work) × B × C). q.0.0) e) s
-
-    pub answer_two : {k : ℕ} → k ≡ packed x → ((k, w), out, further) ≡ with_two g o
-    answer_two h = ap (λ (j : ℕ). ((j, w), out, further)) (as_given h) ∙ ap (with_two g) e
