@@ -9,7 +9,7 @@ use lib.Dec.{ltb, leb}
 use lib.ListN.{length, get_or, set}
 use lib.Seq.{sets}
 use Rattle.std.specs.Prelude.{Option, Some, None, is_some}
-use Rattle.paper.specs.Clock.{part, most_processes}
+use Rattle.paper.specs.Clock.{part, most_processes, most_events}
 use Rattle.paper.specs.Running.{Running, counting, sending, receiving, news}
 use Rattle.paper.specs.Stamp.{mask, values, unpacked}
 use Rattle.paper.proofs.Laws.Masks.{ones_mask}
@@ -55,3 +55,9 @@ sent r r' i j n own k at out {out'} w w' c limits g =
     let e₃ = ap ones e₂ ∙ ones_mask (news (counting i (view r)) j) n in
     let e₄ = g.1 ∙ ap (λ (x : Running). sets out at (values (news x j) x.clock n)) before in
     rw (c.0, lt-ltb j most_processes hj, le-leb n most_processes hn, room) (λ d. ((true, e₂ d, e₃ d), e₁ d, e₄ d))
+
+-- What a caller that keeps the limits has: the event is counted.
+pub ticked_within : (p : ℕ) (r : Running) {r' : Running} {b : Bool} → p < 32 → part r.clock p < 512 → (b, r') ≡ ticking p r → r' ≡ counting p r
+ticked_within p r {r'} {b} h l e =
+    let q : ◌≡◌ {A = Bool × Running} (b, r') (true, counting p r) = rw (lt-ltb p most_processes h, lt-ltb (part r.clock p) most_events l) at e in
+    ap (λ (t : Bool × Running). t.1) q
