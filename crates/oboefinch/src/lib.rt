@@ -18,6 +18,7 @@ use clock::{Position, Terms};
 use pack::Answer;
 
 // Reading a sheet.
+// The work buffers stand one by one, as C lends them.
 #[unsafe(no_mangle)]
 pub extern "C" fn oboefinch_read(
     sheet: &[u8],

@@ -77,6 +77,7 @@ fn mark_all(n: usize, m: usize, clocks: &[u16], lines: &[u8], marks: &mut [u8]) 
 }
 
 // What is left of marking where the clocks of m events of n processes stand in the slots: 21 where there are fewer mark slots than lines.
+// The work buffers stand one by one, as C lends them.
 fn marking(
     n: usize,
     m: usize,

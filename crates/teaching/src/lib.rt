@@ -55,6 +55,7 @@ fn late(
 }
 
 // What is left of the chain where the events of the list stand in the slots: 20, 22, 21, or the positions of its sends.
+// The work buffers and the two positions stand one by one, as C lends them.
 fn linking(
     terms: Terms,
     list: &[u8],
