@@ -17,6 +17,7 @@ pub struct Classed {
     pub carried: usize,
 }
 
+// The slots from `from` up to `to` are set to 0.
 fn zero(slots: &mut [u16], from: usize, to: usize)
     requires { (from ≤ to) × (to ≤ length slots.old) }
     ensures { slots.new ≡ zeroed from to slots.old }
@@ -24,6 +25,7 @@ fn zero(slots: &mut [u16], from: usize, to: usize)
     slots[from..to].fill(0);
 }
 
+// The work buffers stand one by one, as C lends them.
 // The named slots behind those of k accepted events and their v carried values are set to 0.
 fn tidy(
     n: usize,
