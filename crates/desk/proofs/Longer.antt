@@ -1,6 +1,7 @@
 -- Programs read one byte more than the longest sheet or list: one that is longer is refused by its first bytes, whatever follows them.
-use Rattle.std.specs.Prelude.{◌≡◌, ℕ, suc, ◌<◌, Bool, true, false, ◌||◌, not, ◌%◌, List, eqb, length, take}
+use Rattle.std.specs.Prelude.{◌≡◌, ℕ, suc, ◌<◌, true, false, not, ◌%◌, List, eqb, length, take}
 use Rattle.std.proofs.Common.{refl, sym, ap, ◌∙◌, arith, inl, inr, length-take, take_all}
+use Rattle.std.proofs.Math.Bool.{or-true}
 use Rattle.std.proofs.lemmas.Bool.{cases_lt, lt-ltb}
 use borrow.Author.Tests.{le-ltb}
 use Rattle.paper.specs.Class.{list_checks}
@@ -21,8 +22,7 @@ list_refused t = first (wrong_version t) 3 (first (wrong_count t.processes) 4 8)
 
 pub list_longer : (t : Terms) (list : List ℕ) (k : ℕ) → 4096 < length list → list_checks t list k ≡ list_refused t
 list_longer t list k long =
-    let or_true : (x : Bool) → (not x || true) ≡ true = λ x. elim x as (λ y. (not y || true) ≡ true) [ true ↦ refl | false ↦ refl ] in
-    rw (lt-ltb 4096 (length list) long, or_true (eqb (length list % 8) 0)) refl
+    rw (lt-ltb 4096 (length list) long, or-true (not (eqb (length list % 8) 0))) refl
 
 pub list_refused_some : (t : Terms) → eqb (list_refused t) 0 ≡ false
 list_refused_some t =

@@ -1,15 +1,12 @@
 -- The line that is printed for each case of the tally is that of its outcome.
-use Prim.Native.Nat.{ℕ, ◌<◌}
-use native.Mathlib.Nat.{mul-pos}
-use native.Mathlib.Omega.{arith}
+use Prim.Native.Nat.{ℕ}
 use mathlib.Core.Path.{◌≡◌, refl, ap}
 use mathlib.Core.Logic.{◌≢◌}
 use mathlib.Core.List.{List}
 use borrow.Author.Tests.{eq-eqb, ne_eqb}
 use Rattle.paper.specs.Buffers.{Work, ample}
 use Rattle.paper.specs.Refusals.{Outcome}
-use Rattle.paper.specs.Savings.{Counts, whole, hundredths, tallying}
-use Rattle.paper.proofs.SavedRight.{Bounds}
+use Rattle.paper.specs.Savings.{Counts, hundredths, tallying}
 use Rattle.lines.specs.Savings.{no_messages_line, saved_line}
 use Rattle.desk.specs.Answers.{text_of}
 use Rattle.savings.specs.Answer.{counts_line, savings_answer}
@@ -22,10 +19,6 @@ module _ (c : Counts) where
   pub some_line : c.sends ≢ 0 → saved_line (hundredths c) ≡ counts_line c
   unfolding counts_line
   some_line h = rw (ne_eqb c.sends 0 h) refl
-
-  -- Nothing is divided by 0.
-  pub some_whole : Bounds c → c.sends ≢ 0 → 0 < whole c
-  some_whole b h = mul-pos b.some (omega arith)
 
 module _ (b : List ℕ) (after : Work) where
   pub line_of : (o : Outcome Counts) → (o, after) ≡ tallying b ample → text_of counts_line o ≡ savings_answer b
