@@ -27,6 +27,7 @@ fn put_stamp(out: &mut [u8], at: usize, stamp: Stamp) -> usize
     put_values(out, to, stamp.values)
 }
 
+// Two bytes for each value.
 fn put_values(out: &mut [u8], at: usize, values: &[u16]) -> usize
     ensures { Appended out.old at (flat_map two_bytes values.now) result out.new }
 {
