@@ -145,14 +145,9 @@ mod tests {
 
     impl Env for Given<'_> {
         fn arg(&self, i: usize, buf: &mut [u8]) -> Result<usize, FillError> {
-            if i >= self.0.len() {
-                return Err(FillError::NotPresent);
-            }
-            let word = self.0[i];
-            if word.len() > buf.len() {
-                return Err(FillError::TooLong);
-            }
-            buf[..word.len()].copy_from_slice(word);
+            let word = self.0.get(i).ok_or(FillError::NotPresent)?;
+            let slot = buf.get_mut(..word.len()).ok_or(FillError::TooLong)?;
+            slot.copy_from_slice(word);
             Ok(word.len())
         }
 
@@ -204,10 +199,10 @@ mod tests {
             if self.0 == 0 {
                 return Err(Error::from(ErrorKind::BrokenPipe));
             }
-            if buf.is_empty() {
+            let Some(first) = buf.first_mut() else {
                 return Ok(0);
-            }
-            buf[0] = self.0;
+            };
+            *first = self.0;
             self.0 -= 1;
             Ok(1)
         }

@@ -20,7 +20,7 @@ fn run<R: Read, W: Write>(from: &mut R, to: &mut W) -> io::Result<()>
     desk::serve::<40961, _, _, _>(from, to, answer::listing_answer)
 }
 
-// The same with Lamport numbers.
+// The same with Lamport numbers: each of the two promises its own text.
 fn run_lamport<R: Read, W: Write>(from: &mut R, to: &mut W) -> io::Result<()>
     ensures { OnOk result (IfSome (R.remaining from.old) (λ sheet.
         Appends (W.contents to.old) (W.contents to.new) (listing_lamport_answer sheet))) }
