@@ -2,7 +2,7 @@
 use Prim.Native.Nat.{◌^◌, ◌<◌}
 use native.Mathlib.Omega.{arith}
 use lib.ListN.{length}
-use Rattle.record.proofs.Taking.{taken_start, value_below, taken_grew, taken_kept, taken_end}
+use Rattle.record.proofs.Taking.{value_below, taken_end}
 use Rattle.record.proofs.take.Goals as goal
 use Rattle.record.proofs.take.Goals.{In-Some, Start, else-running-k, then-running-k}
 
@@ -12,9 +12,6 @@ word c = omega (arith, c.ranges.mask)
 room : (c : goal.In-Some) → c.loop-k.next < length c.args.values.now
 room c = omega (arith, c.requires, value_below c.loop-k.invariant (word (goal.at.In-Some c).Start) c.in-Some.ensures.steps)
 
-pub loop-k-init : goal.loop-k-init
-loop-k-init c = rw c.into_iter-k-iterator.ensures.into_iter_gives (taken_start _ _ _ _ _)
-
 pub offset_bounds-values-next : goal.offset_bounds-values-next
 offset_bounds-values-next c = omega (arith, room (goal.at.offset_bounds-values-next c).In-Some)
 
@@ -23,13 +20,6 @@ bounds-values-next c = room (goal.at.bounds-values-next c).In-Some
 
 pub overflow_add-next : goal.overflow_add-next
 overflow_add-next c = omega (arith, room (goal.at.overflow_add-next c).In-Some)
-
-pub loop-k-preserved : goal.loop-k-preserved
-loop-k-preserved c =
-    let u = c.loop-k.invariant in
-    let m = word (goal.at.loop-k-preserved c).Start in
-    let s = c.in-Some.ensures.steps in
-    elim c.if-running-k.branch [ then-running-k g ↦ rw g.running-is (taken_grew u m s g.if-running-k.true) | else-running-k g ↦ rw g.running-is (taken_kept u m s g.if-running-k.false) ]
 
 pub returns : goal.returns
 returns c p e =

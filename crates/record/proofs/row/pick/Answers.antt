@@ -2,7 +2,7 @@
 use Prim.Native.Nat.{◌^◌, ◌<◌}
 use native.Mathlib.Omega.{arith}
 use lib.ListN.{length}
-use Rattle.record.proofs.Picking.{picked_start, picked_long, value_below, picked_next, picked_end}
+use Rattle.record.proofs.Picking.{picked_long, value_below, picked_end}
 use Rattle.record.proofs.row.pick.Goals as goal
 use Rattle.record.proofs.row.pick.Goals.{In-Some, Start}
 
@@ -12,9 +12,6 @@ word c = omega (arith, c.ranges.mask)
 room : (c : goal.In-Some) → c.loop-k.c < length c.args.out.now
 room c = omega (arith, c.requires, value_below _ _ _ _ c.loop-k.invariant (word (goal.at.In-Some c).Start) c.in-Some.ensures.steps)
 
-pub loop-k-init : goal.loop-k-init
-loop-k-init c = rw c.into_iter-k-iterator.ensures.into_iter_gives (picked_start _ _ _ _)
-
 pub offset_bounds-out-c : goal.offset_bounds-out-c
 offset_bounds-out-c c = omega (arith, room (goal.at.offset_bounds-out-c c).In-Some)
 
@@ -23,9 +20,6 @@ bounds-out-c c = omega (arith, room (goal.at.bounds-out-c c).In-Some, picked_lon
 
 pub overflow_add-c : goal.overflow_add-c
 overflow_add-c c = omega (arith, room (goal.at.overflow_add-c c).In-Some)
-
-pub loop-k-preserved : goal.loop-k-preserved
-loop-k-preserved c = picked_next _ _ _ _ c.loop-k.invariant (word (goal.at.loop-k-preserved c).Start) c.in-Some.ensures.steps
 
 pub returns : goal.returns
 returns c = picked_end _ _ _ _ c.loop-k.invariant (word (goal.at.returns c).Start) c.in-None.ensures.steps
