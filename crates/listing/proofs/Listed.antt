@@ -1,5 +1,5 @@
 -- The text that is printed for each case of a reading is the text of its outcome.
-use Prim.Native.Nat.{ℕ, ◌+◌, ◌-◌}
+use Prim.Native.Nat.{ℕ}
 use Rattle.std.specs.Prelude.{Bool, true, false, cond}
 use mathlib.Core.List.{List, [], ◌∷◌}
 use mathlib.Core.Path.{◌≡◌, refl, sym, ap, ◌∙◌}
@@ -18,7 +18,7 @@ use Rattle.paper.proofs.Also.{call_done}
 use Rattle.paper.proofs.Ample.{reading_unasked}
 use Rattle.paper.proofs.Laws.Refused.{after_done}
 use Rattle.paper.proofs.Sheets.Checks.{placed, is_done}
-use Rattle.sheet.proofs.Accepted.{Accepted, lent_list}
+use Rattle.sheet.proofs.Accepted.{Accepted}
 use Rattle.lines.specs.Slots.{listing_text, listing_lamport_text}
 use Rattle.lines.proofs.Faithful.{listing_after, lamport_after}
 use Rattle.desk.specs.Answers.{text_of}
@@ -50,9 +50,6 @@ module _ (b : List ℕ) {after : Work} {r : Refusal} (e : (refused r, after) ≡
       elim lamport as (λ x. refusal_line r ≡ cond x (listing_lamport_answer b) (listing_answer b)) [ true ↦ lamport_refused | false ↦ listing_refused ]
 
 module _ {b : List ℕ} {after : Work} {t : Terms} {at size carried : ℕ} (s : Accepted b ample after t at size carried) where
-  abbrev lent : List ℕ
-  lent = take (at + size - at) (drop at b)
-
   -- What is read is the sheet's own list.
   read_so : (f : Read → List ℕ) → text_of f (reading b ample).0 ≡ f (read_of (terms_in b) (list_in b))
   unfolding reading
@@ -61,26 +58,28 @@ module _ {b : List ℕ} {after : Work} {t : Terms} {at size carried : ℕ} (s : 
       let read = read_of (terms_in b) (list_in b) in
       ap (text_of f) ((is_done (refusal_of c) read read).1 ((placed c).1 (s.early, s.late), refl))
 
-  pub listing_done : listing_text t.processes lent after.clocks after.masks carried ≡ listing_answer b
+  pub listing_done : {l : List ℕ} → l ≡ take size (drop at b) → listing_text t.processes l after.clocks after.masks carried ≡ listing_answer b
   unfolding listing_answer read_of
-  listing_done =
-      sym (λ i. listing_text (s.terms i).processes (lent_list s i) after.clocks after.masks (s.values i))
+  listing_done {l} lent =
+      let whole : list_in b ≡ l = s.list ∙ sym lent in
+      sym (λ i. listing_text (s.terms i).processes (whole i) after.clocks after.masks (s.values i))
       ∙ listing_after s.stands
       ∙ sym (read_so listed)
 
   -- The numbers stand in their slots.
   pub lamport_done :
-      {x : Read} {numbers : List ℕ} → ((done x, after), numbers) ≡ reading_lamport b ample (replicate 512 0)
-      → listing_lamport_text t.processes lent after.clocks after.masks numbers carried ≡ listing_lamport_answer b
+      {x : Read} {l numbers : List ℕ} → l ≡ take size (drop at b) → ((done x, after), numbers) ≡ reading_lamport b ample (replicate 512 0)
+      → listing_lamport_text t.processes l after.clocks after.masks numbers carried ≡ listing_lamport_answer b
   unfolding reading_lamport listing_lamport_answer read_of
-  lamport_done {x} {numbers} e =
+  lamport_done {x} {l} {numbers} lent e =
+      let whole : list_in b ≡ l = s.list ∙ sym lent in
       let zeros : List ℕ = replicate 512 0 in
       let c = reading_checks b ample (zeros ∷ []) in
       let left = ap (λ (y : (Outcome Read × Work) × List ℕ). y.0) e in
       let ((early, late), same, rest) = call_done c (read_of (terms_in b) (list_in b)) x (terms_in b) (list_in b) ample after left in
       let told : numbers ≡ laid (how_many (list_in b)) (lamports (accepted_of (terms_in b) (list_in b))) zeros =
       ap (λ (y : (Outcome Read × Work) × List ℕ). y.1) e ∙ after_done c _ _ zeros early late in
-      sym (λ i. listing_lamport_text (s.terms i).processes (lent_list s i) after.clocks after.masks (sym told i) (s.values i))
+      sym (λ i. listing_lamport_text (s.terms i).processes (whole i) after.clocks after.masks (sym told i) (s.values i))
       ∙ lamport_after s.stands zeros
       ∙ sym (read_so lamport_listed)
       ∙ as_asked lamport_listed b

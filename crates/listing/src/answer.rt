@@ -21,7 +21,7 @@ fn answer(lamport: bool, sheet: &[u8], out: &mut [u8; PAGE]) -> usize
         Err(r) => lines::refusal_text(r, out),
         Ok(c) => {
             let n = c.terms.processes;
-            let list = &sheet[c.offset..c.offset + c.size];
+            let list = c.list(sheet);
             if lamport {
                 lines::listing_lamport_text(
                     n,

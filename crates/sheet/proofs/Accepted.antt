@@ -62,11 +62,6 @@ module _ {b : List ℕ} {w w' : Work} {t : Terms} {at size carried : ℕ} where
         short = sheet.size.1;
       }
 
--- The part of the sheet that a caller lends on is the list that was read.
-module _ {b : List ℕ} {w w' : Work} {t : Terms} {at size carried : ℕ} (s : Accepted b w w' t at size carried) where
-  pub lent_list : list_in b ≡ take (at + size - at) (drop at b)
-  lent_list = let e : size ≡ at + size - at = omega arith in s.list ∙ ap (λ (k : ℕ). take k (drop at b)) e
-
 -- By the case of what the reader answers.
 module _ {r : Result declared_contents.Contents declared_refusal.Refusal} where
   pub accepted :

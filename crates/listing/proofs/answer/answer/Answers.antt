@@ -1,6 +1,5 @@
 -- The text is that of the outcome of reading with Lamport numbers, over the slots that this leaves.
 use mathlib.Core.Path.{refl}
-use native.Mathlib.Omega.{arith}
 use Rattle.clock.specs.Said.{stated}
 use Rattle.course.specs.Said.{work}
 use Rattle.paper.specs.Buffers.{ample}
@@ -16,11 +15,8 @@ sheet_accepted :
     Accepted c.args.sheet.now ample (work t.clocks t.masks t.values) (stated x.terms) x.offset x.size x.carried
 sheet_accepted c = let e = c.in-Ok.ensures in accepted _ ample {c = c.in-Ok.c} refl (as_read c.args.sheet.now e.numbers, e.place)
 
-pub overflow_add-list : goal.overflow_add-list
-overflow_add-list c = let s = sheet_accepted (goal.at.overflow_add-list c).In-Ok in omega (arith, s.inside, s.short)
-
-pub slice_bounds-list-end : goal.slice_bounds-list-end
-slice_bounds-list-end c = omega (arith, (sheet_accepted (goal.at.slice_bounds-list-end c).In-Ok).inside)
+pub list-list-requires : goal.list-list-requires
+list-list-requires c = (sheet_accepted (goal.at.list-list-requires c).In-Ok).inside
 
 pub returns-in-Err : goal.returns-in-Err
 returns-in-Err c = printed_as (either_refused _ (as_read c.args.sheet.now c.in-Err.ensures.numbers) c.args.lamport) c.refusal_text.ensures
@@ -28,8 +24,8 @@ returns-in-Err c = printed_as (either_refused _ (as_read c.args.sheet.now c.in-E
 pub returns-then-lamport : goal.returns-then-lamport
 returns-then-lamport c =
     rw c.if-lamport.true
-    (printed_as (lamport_done (sheet_accepted (goal.at.returns-then-lamport c).In-Ok) c.in-Ok.ensures.numbers) c.listing_lamport_text.ensures)
+    (printed_as (lamport_done (sheet_accepted (goal.at.returns-then-lamport c).In-Ok) c.list-list.ensures c.in-Ok.ensures.numbers) c.listing_lamport_text.ensures)
 
 pub returns-else-lamport : goal.returns-else-lamport
 returns-else-lamport c =
-    rw c.if-lamport.false (printed_as (listing_done (sheet_accepted (goal.at.returns-else-lamport c).In-Ok)) c.listing_text.ensures)
+    rw c.if-lamport.false (printed_as (listing_done (sheet_accepted (goal.at.returns-else-lamport c).In-Ok) c.list-list.ensures) c.listing_text.ensures)
