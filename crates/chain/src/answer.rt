@@ -5,7 +5,7 @@ ghost use Rattle.chain.specs.Answer.{chain_answer};
 use clock::Position;
 use desk::PAGE;
 
-// What `chain` prints: the chain from one event of a sheet to another.
+// What `chain` prints: the chain from one event of a sheet to another, whose positions its promise names one by one.
 pub fn chain_answer(sheet: &[u8], first: Position, second: Position, out: &mut [u8; PAGE]) -> usize
     ensures { Printed out.old (chain_answer sheet.now first.0 second.0) result out.new }
 {

@@ -28,6 +28,7 @@ pub struct Position(pub usize);
 pub struct Message(pub u16);
 
 // A refusal number, and the position of the refused event; 0 where no event is refused.
+// A number and no check, since `of_call` and `of_event` give a refusal of every number.
 #[derive(Clone, Copy, Debug, PartialEq, Eq)]
 pub struct Refusal {
     pub number: u8,

@@ -5,7 +5,7 @@ ghost use Rattle.compare.specs.Answer.{compare_answer};
 use clock::Position;
 use desk::PAGE;
 
-// What `compare` prints: the verdict on two events of a sheet.
+// What `compare` prints: the verdict on two events of a sheet, whose positions its promise names one by one.
 pub fn compare_answer(
     sheet: &[u8],
     first: Position,

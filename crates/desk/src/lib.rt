@@ -92,7 +92,7 @@ pub fn read_full<R: Read>(from: &mut R, buf: &mut [u8]) -> io::Result<usize>
     Ok(done)
 }
 
-// Prints the first bytes of a page. No text is longer than a page, as its promise says.
+// Prints the first bytes of a page, which its promise names beside the length. No text is longer than a page, as its promise says.
 pub fn print<W: Write>(to: &mut W, page: &[u8; PAGE], length: usize) -> io::Result<()>
     ensures fits { OnOk result (length ≤ PAGE → Appends (W.contents to.old) (W.contents to.new) (take length page.now)) }
     ensures longer { OnOk result (PAGE < length → Keeps (W.contents to.old) (W.contents to.new)) }

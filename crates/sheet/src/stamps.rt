@@ -42,7 +42,7 @@ fn is_recorded(bytes: &[u8], stamp: Stamp) -> bool
     bytes.starts_with(&stamp.mask.to_le_bytes()) && same_values(&bytes[4..], stamp.values)
 }
 
-// How many bytes an event of this kind has among the stamps.
+// How many bytes an event of this kind has among the stamps. A byte and no enum: it promises something of every kind.
 pub fn piece_size(kind: u8, mask: u32) -> usize
     ensures { (result ≡ kind_size kind mask) × (result ≤ 68) }
 {
