@@ -65,6 +65,7 @@ impl<'a> Listed<'a> {
     fn put_start(self, out: &mut [u8]) -> usize
         ensures { Appended out.old 0 (text "CKT" ++ (self.entry.terms.processes ∷ []) ++ two_bytes self.entry.terms.version ++ two_bytes 0) result out.new }
     {
+        // `as`, since no From goes from usize to fewer bits.
         let n = self.terms.processes as u8;
         let a = put_all(out, 0, b"CKT");
         let b = put(out, a, n);
@@ -113,7 +114,7 @@ impl<'a> Listed<'a> {
         put_stamps(out, b, stamps)
     }
 
-    // 21, or the sheet of the list, whose stamps stand in the work buffers.
+    // 21, or the sheet of the list, whose stamps stand in the work buffers; these stand one by one, as in `write`.
     pub(crate) fn written(
         self,
         clocks: &mut [u16],

@@ -1,5 +1,5 @@
 // The texts that the programs print, built in a lent buffer. A byte behind the buffer's end is no byte of it: the text is cut there.
-// Public promises: each text names what is lent part by part.
+// Public promises: each text names what is lent part by part. No Display, since each is promised byte for byte, and cut where the buffer ends.
 #![tactic(auto)]
 
 ghost use Rattle.std.specs.Prelude.{◌≡◌};

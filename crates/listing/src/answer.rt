@@ -5,7 +5,7 @@ ghost use Rattle.listing.specs.Answer.{listing_answer, listing_lamport_answer};
 
 use desk::PAGE;
 
-// What `listing` prints of a sheet, or `listing lamport` where Lamport numbers are asked for.
+// What `listing` prints of a sheet, or `listing lamport` where Lamport numbers are asked for. A flag, so that one clause covers both texts.
 fn answer(lamport: bool, sheet: &[u8], out: &mut [u8; PAGE]) -> usize
     ensures { Printed out.old (cond lamport (listing_lamport_answer sheet.now) (listing_answer sheet.now)) result out.new }
 {

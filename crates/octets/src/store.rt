@@ -15,7 +15,7 @@ pub fn put(out: &mut [u8], at: usize, b: u8) -> usize
     past(at, 1)
 }
 
-// The lowest byte of a number.
+// The lowest byte of a number. `as`, since no From goes from usize to fewer bits.
 fn low(x: usize) -> u8
     ensures { result ≡ x % 256 }
 {
@@ -41,6 +41,7 @@ pub fn put_all(out: &mut [u8], at: usize, bytes: &[u8]) -> usize
     ensures { Appended out.old at bytes.now result out.new }
 {
     let count = within(out.len(), at, bytes.len());
+    // Behind the end there is no range, not even an empty one.
     if count > 0 {
         out[at..at + count].copy_from_slice(&bytes[..count]);
     }

@@ -1,4 +1,4 @@
-// Text stored from the place `at` on.
+// Text stored from the place `at` on. No Display, since each text is promised byte for byte, and cut where the slice ends.
 ghost use Rattle.std.specs.Prelude.{◌≡◌, ◌++◌, ◌+◌, ◌*◌, ◌%◌, ◌≤◌, length};
 ghost use Rattle.paper.specs.Listing.{decimal, word, words};
 ghost use Rattle.octets.specs.Appended.{Appended};
@@ -6,7 +6,7 @@ ghost use Rattle.octets.specs.Appended.{Appended};
 use super::store::{put, put_all};
 use super::width::Narrow;
 
-// The last digit of a number.
+// The last digit of a number. `as`, since no From goes from usize to fewer bits.
 pub fn digit(x: usize) -> u8
     ensures { result ≡ 48 + x % 10 }
 {

@@ -19,7 +19,7 @@ pub fn is_past(count: usize, first: Position, second: Position) -> bool
     !(first.0 < count) | !(second.0 < count)
 }
 
-// The slots of the event at a position, n slots to each.
+// The slots of the event at a position, n slots to each. Here and below n and the clocks stand one by one, as `row_verdict` takes them.
 fn row(n: usize, clocks: &[u16], at: Position) -> &[u16]
     requires { n * at.0 + n ≤ length clocks.now }
     ensures { result.now ≡ row n clocks.now at.0 }

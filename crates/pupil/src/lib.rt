@@ -21,7 +21,7 @@ pub struct Marked {
     pub lines: usize,
 }
 
-// A line of a pupil's list: two events, and the verdict given on them.
+// A line of a pupil's list: two events, and the verdict given on them, a number, since a pupil may give one that is none.
 #[derive(Clone, Copy)]
 struct Line {
     first: Position,
@@ -48,7 +48,7 @@ fn line_at(lines: &[u8], j: usize) -> Line
     }
 }
 
-// Whether a line is right on m events of n processes, whose clocks stand in the slots.
+// Whether a line is right on m events of n processes, whose clocks stand in the slots: one by one, as `judge` takes them.
 fn is_right(n: usize, m: usize, clocks: &[u16], given: Line) -> bool
     ensures { result ≡ row_right n m clocks.now (line given) }
 {

@@ -7,7 +7,7 @@ ghost use Rattle.savings.specs.Answer.{counts_line, savings_answer};
 use desk::PAGE;
 use percentage::Counts;
 
-// The line of counts: the hundredths come from whole numbers alone.
+// The line of counts: the hundredths come from whole numbers alone, and not from percentage's float.
 fn counts_text(c: Counts, out: &mut [u8; PAGE]) -> usize
     requires { Bounds (counts c) }
     ensures { Printed out.old (counts_line (counts c)) result out.new }

@@ -95,7 +95,7 @@ fn is_outside(len: usize, p: Part) -> bool
     (p.offset < 24) | (len < p.offset) | (len.saturating_sub(p.offset) < p.size)
 }
 
-// 6.
+// 6. Of a list lent directly, 8 asks the same of the length.
 fn is_wrong_list(len: usize, p: Part) -> bool
     ensures { result ≡ wrong_list len p }
 {

@@ -15,6 +15,7 @@ use super::stamps::compare;
 use super::walk::Stamps;
 use clock::Refusal;
 
+// The lent slices stand one by one, as in `read_lamport`.
 // Recorded stamps compared: a refusal sets the slots named for the events of the list to 0.
 fn recorded(
     n: usize,

@@ -16,7 +16,7 @@ pub struct Stamp<'a> {
 }
 
 impl<'a> Stamp<'a> {
-    // How many bytes it takes: 4 for the mask, 2 for each value.
+    // How many bytes it takes: 4 for the mask, 2 for each value; `piece_size` promises it of a mask alone.
     pub fn size(self) -> usize
         ensures { (result ≡ 4 + 2 * length self.entry.values.now) × (result ≤ 68) }
     {

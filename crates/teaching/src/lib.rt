@@ -24,7 +24,7 @@ fn room(n: usize) -> usize
     n.saturating_sub(1)
 }
 
-// Whether the first of two events whose clocks stand in slots is before the second.
+// Whether the first of two events whose clocks stand in slots is before the second. What it asks stands one by one, as `judge` takes it.
 fn is_before(n: usize, clocks: &[u16], first: Position, second: Position) -> bool
     ensures { result ≡ says_before (row_verdict n clocks.now first.0 second.0) }
 {

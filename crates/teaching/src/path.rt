@@ -64,7 +64,7 @@ impl Course<'_> {
         (kind_at(self.list, c) == SEND) & (m == message)
     }
 
-    // The event that sends a message.
+    // The event that sends a message. A search of its own: that it ends is another fact than in `learner`.
     fn sender(self, message: Message) -> Position
         requires { (s : ℕ) × Sent self.list.now message.0 s }
         ensures { Sent self.entry.list.now message.0 result.0 }
@@ -93,6 +93,7 @@ impl Course<'_> {
         let r = self.learner(first, second);
         let s = self.sender(message_at(self.list, r));
         let k = self.walk(first, s, out);
+        // `as`, since no From goes from usize to fewer bits.
         out[k] = s.0 as u16;
         k + 1
     }
