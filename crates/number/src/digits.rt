@@ -4,10 +4,11 @@ ghost use Rattle.number.specs.Digits.{is_digit, all_digits, value_behind};
 
 use octets::width::Narrow;
 
+// 0 to 9.
 fn is_digit(b: u8) -> bool
     ensures { result ≡ is_digit b }
 {
-    (b'0' <= b) & (b <= b'9')
+    b.is_ascii_digit()
 }
 
 fn digit(b: u8) -> usize

@@ -48,7 +48,7 @@ pub fn judge(
 }
 
 // What is left of comparing where the events of the list stand in the slots: 20, or the verdict.
-// The work buffers and the two positions stand one by one, as C lends them.
+// The work buffers and the two positions stand one by one, as C lends and passes them.
 fn comparison(
     terms: Terms,
     list: &[u8],

@@ -55,7 +55,7 @@ fn late(
 }
 
 // What is left of the chain where the events of the list stand in the slots: 20, 22, 21, or the positions of its sends.
-// The work buffers and the two positions stand one by one, as C lends them.
+// The work buffers and the two positions stand one by one, as C lends and passes them.
 fn linking(
     terms: Terms,
     list: &[u8],
