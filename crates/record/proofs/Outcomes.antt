@@ -37,13 +37,13 @@ none_of false true c h = absurd (true≢false h)
 none_of true b c h = absurd (true≢false h)
 
 -- The record r' is that of the count, of which k is the mask of what is new to j.
-pub sent : (r r' : Record) (i j n own k at : ℕ) (out : List ℕ) {out' : List ℕ} → Whole r → Whole r' → Counts i r r' (Some own)
+pub sent : (r r' : Record) (i j n own k at : ℕ) (out : List ℕ) {out' : List ℕ} {o : ℕ} → o ≡ ones k → Whole r → Whole r' → Counts i r r' (Some own)
     → ((leb most_processes j || ltb most_processes n) || not (roomy (length out) at n)) ≡ false
     → let p = newer r'.updated (get_or r.sent j 0) in
     (k ≡ mask p n) × (out' ≡ sets out at (values p r'.clock n))
-    → ((true, k, ones k), view (record { clock = r'.clock; updated = r'.updated; sent = set r'.sent j own }), out') ≡ stamping i j n out at (view r)
+    → ((true, k, o), view (record { clock = r'.clock; updated = r'.updated; sent = set r'.sent j own }), out') ≡ stamping i j n out at (view r)
 unfolding news
-sent r r' i j n own k at out {out'} w w' c limits g =
+sent r r' i j n own k at out {out'} o_is w w' c limits g =
     let (a, b, room) = none_of (leb most_processes j) (ltb most_processes n) (roomy (length out) at n) limits in
     let hj : j < 32 = leb-false most_processes j a in
     let hn : n ≤ 32 = ltb-false most_processes n b in
@@ -52,7 +52,7 @@ sent r r' i j n own k at out {out'} w w' c limits g =
     let before : viewing r'.clock r'.updated r.sent ≡ counting i (view r) = (λ d. viewing r'.clock r'.updated (sym same d)) ∙ is in
     let e₁ = sent_record r' i j w' hj own_is ∙ ap (sending i j) is in
     let e₂ : k ≡ mask (news (counting i (view r)) j) n = g.0 ∙ ap (λ (x : Running). mask (news x j) n) before in
-    let e₃ = ap ones e₂ ∙ ones_mask (news (counting i (view r)) j) n in
+    let e₃ = o_is ∙ ap ones e₂ ∙ ones_mask (news (counting i (view r)) j) n in
     let e₄ = g.1 ∙ ap (λ (x : Running). sets out at (values (news x j) x.clock n)) before in
     rw (c.0, lt-ltb j most_processes hj, le-leb n most_processes hn, room) (λ d. ((true, e₂ d, e₃ d), e₁ d, e₄ d))
 

@@ -2,6 +2,8 @@
 ghost use Rattle.std.specs.Iterator.{at_most};
 ghost use Rattle.record.specs.Ones.{Walks};
 
+use octets::width::Narrow;
+
 #[derive(Drop)]
 pub(crate) struct Ones(pub(crate) u32);
 
@@ -16,8 +18,8 @@ impl Iterator for Ones {
         if self.0 == 0 {
             return None;
         }
-        let k = u32::trailing_zeros(self.0) as usize;
-        self.0 = self.0 & (self.0 - 1);
+        let k = self.0.trailing_zeros().wide();
+        self.0 &= self.0 - 1;
         Some(k)
     }
 }

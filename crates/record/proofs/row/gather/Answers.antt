@@ -21,10 +21,10 @@ kept c p e = rw (divisor c, e) (mask_low p c.args.n c.requires.1)
 pub pick-requires : goal.pick-requires
 pick-requires c =
     let w = c.requires.2 in
-    rw (kept (goal.at.pick-requires c).Start w.bits w.is, count_kept w.bits c.args.n c.requires.1) (omega (arith, c.requires.0, count_le w.bits c.args.n))
+    rw (c.from.ensures, kept (goal.at.pick-requires c).Start w.bits w.is, count_kept w.bits c.args.n c.requires.1) (omega (arith, c.requires.0, count_le w.bits c.args.n))
 
 pub returns : goal.returns
 returns c p e =
     let a = c.args in
     let k = kept (goal.at.returns c).Start p e in
-    (k, c.pick.ensures ∙ ap (λ (x : ℕ). sets a.out.now a.at (values (bit x) a.clock.now 32)) k ∙ ap (sets a.out.now a.at) (values_kept p a.clock.now a.n c.requires.1))
+    rw c.from.ensures (k, rw c.from.ensures at c.pick.ensures ∙ ap (λ (x : ℕ). sets a.out.now a.at (values (bit x) a.clock.now 32)) k ∙ ap (sets a.out.now a.at) (values_kept p a.clock.now a.n c.requires.1))
