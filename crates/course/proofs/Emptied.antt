@@ -1,6 +1,5 @@
 -- What `clear` does: where the named slots are lent they are set to 0, and otherwise nothing is written.
 use Prim.Native.Nat.{ℕ, ◌*◌, ◌≤◌}
-use native.Mathlib.Nat.{mul-le-mul, le_refl}
 use native.Mathlib.Omega.{arith}
 use mathlib.Core.Path.{◌≡◌, refl}
 use mathlib.Core.Bool.{Bool, true, false, ◌||◌, not}
@@ -44,14 +43,3 @@ module _ (n m : ℕ) (w : Work) where
       let y = zeroed_cleared m [] w.masks {k = 0} refl refl (omega arith) t.mask in
       let z = zeroed_cleared (n * m) [] w.values {k = 0} refl refl (omega arith) t.value in
       rw (h, p) (λ i. record { clocks = x i; masks = y i; values = z i })
-
-  pub kept : is_named ≡ false → w ≡ wiped n m w
-  kept h = rw h
-
--- Products of what is lent fit.
-pub record Products (n m k : ℕ) : Type 0 where
-  pub used : n * k ≤ n * m
-  pub small : n * m ≤ 16384
-
-pub products : {n m k v : ℕ} {w : Work} → Tail n m k v w → Products n m k
-products {n} t = record { used = mul-le-mul (le_refl n) t.accepted; small = omega (arith, mul-le-mul t.few t.short) }

@@ -92,11 +92,6 @@ module _ {mode : Bool} {terms : Terms} {l : List ℕ} {w₀ w : Slots} {r : Trie
         value = rw (ran.value, length-sets) room.value;
       }
 
-  pub whole_tail : Tail terms.processes m 0 0 w.page.work
-  whole_tail =
-      let t = tail in
-      record { few = t.few; short = t.short; accepted = omega arith; carried = omega arith; clock = t.clock; mask = t.mask; value = t.value }
-
   pub lamports_tail : (k ≤ m) × (m ≤ length w.lamports)
   lamports_tail = (few, rw (ran.lamport, length-sets) room.lamport)
 

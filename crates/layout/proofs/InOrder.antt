@@ -1,5 +1,5 @@
 -- The writer's checks in their order: the strict course's, then 21, and what is laid where none refuses.
-use Prim.Native.Nat.{ℕ, ◌+◌, ◌≤◌, ◌<◌}
+use Prim.Native.Nat.{ℕ, ◌+◌}
 use native.Mathlib.Omega.{arith}
 use mathlib.Core.Path.{◌≡◌, refl, sym, ap, ◌∙◌}
 use mathlib.Core.Bool.{Bool, true, false, cond}
@@ -7,7 +7,7 @@ use mathlib.Core.List.{List, []}
 use lib.Dec.{ltb}
 use lib.ListN.{length}
 use lib.Seq.{sets}
-use borrow.Author.Tests.{le-ltb, lt-ltb, ltb-false}
+use borrow.Author.Tests.{ltb-false}
 use Rattle.paper.specs.Buffers.{Work, laid, entries}
 use Rattle.paper.specs.Event.{how_many}
 use Rattle.paper.specs.Machine.{accepted_of}
@@ -35,21 +35,6 @@ accepted {terms} {list} {w} {w'} {v} h = (list_stands [] (entries (accepted_of t
 -- What the writer leaves behind.
 abbrev Ends : Type 0
 Ends = (Outcome Written × Work) × List ℕ
-
--- What is laid: nothing where the output is too short, and otherwise the whole sheet.
-module _ (terms : Terms) (list : List ℕ) (w : Work) (out : List ℕ) {stamped : ℕ} (is : stamped ≡ slot_size list w.masks) where
-  pub short_out :
-      {given : Refusal} {w' : Work} → given ≡ of_call 21 → length out < 24 + length list + stamped → w' ≡ wiped terms.processes (how_many list) w
-      → ◌≡◌ {A = Ends} ((refused given, w'), out) (laying terms list w out)
-  short_out g h e =
-      rw (lt-ltb (length out) (24 + length list + slot_size list w.masks) (rw is at h)) (λ i. ((refused (g i), e i), out))
-
-  pub whole_out :
-      {out' : List ℕ} → 24 + length list + stamped ≤ length out → out' ≡ sets out 0 (slot_written terms list w.masks w.values)
-      → ◌≡◌ {A = Ends} ((done (record { events = how_many list; bytes = 24 + length list + stamped }), w), out') (laying terms list w out)
-  whole_out h e =
-      rw (le-ltb (length out) (24 + length list + slot_size list w.masks) (rw is at h))
-      (λ i. ((done (record { events = how_many list; bytes = 24 + length list + is i }), w), e i))
 
 module _ (terms : Terms) (list : List ℕ) (w w' : Work) (out : List ℕ) where
   abbrev c : Checks

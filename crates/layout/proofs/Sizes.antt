@@ -18,10 +18,7 @@ use Rattle.sheet.proofs.Filled.{slots_there, pieces_there}
 use Rattle.sheet.proofs.Slots.{length_kind_piece, values_there}
 use Rattle.layout.specs.Sizes.{size_from, slot_size, slot_stamps, slot_written}
 
--- The size from the event at i on: of all, by that event's, of none.
-pub size_start : (list masks : List ℕ) → 0 + size_from list masks (how_many list - 0) 0 ≡ slot_size list masks
-size_start list masks = let e : how_many list - 0 ≡ how_many list = omega arith in rw e (omega arith)
-
+-- The size from the event at i on: by that event's, and of none.
 pub size_more :
     (list masks : List ℕ) (i : ℕ) → i < how_many list
     → size_from list masks (how_many list - i) i ≡ kind_size (kind_at list i) (get_or masks i 0) + size_from list masks (how_many list - (i + 1)) (i + 1)

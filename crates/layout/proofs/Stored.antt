@@ -36,9 +36,6 @@ pub record Putting (l : List ℕ) (at : ℕ) (all ps : List (List ℕ)) (to : �
   pub reached : to < 2 ^ 64
   pub rest : (r : ℕ) (x : List ℕ) → Appended out to (flatten ps) r x → Appended l at (flatten all) r x
 
-pub put_start : {l : List ℕ} {at : ℕ} {all ps : List (List ℕ)} → all ≡ ps → length l < 2 ^ 64 → at < 2 ^ 64 → Putting l at all ps at l
-put_start e short small = record { lent = short; reached = small; rest = λ r x a. rw e a }
-
 module _ {l : List ℕ} {at to : ℕ} {all ps : List (List ℕ)} {out : List ℕ} (w : Putting l at all ps to out) where
   pub put_more : {p : List ℕ} {qs : List (List ℕ)} {r : ℕ} {x : List ℕ} → ps ≡ p ∷ qs → Appended out to p r x → Putting l at all qs r x
   unfolding flatten

@@ -8,11 +8,9 @@ use mathlib.Core.Bool.{false}
 use mathlib.Core.Logic.{◌≢◌}
 use native.Mathlib.Nat.{mul_assoc, mul_comm, mul-pos, mul-one, mul-le-mul}
 use native.Mathlib.Omega.{arith}
-use borrow.Author.Tests.{ne_eqb, le-leb}
-use denote.Floats.{passes}
-use lib.Dec.{T, leb}
+use borrow.Author.Tests.{ne_eqb}
 use lib.IntN.{pos}
-use lib.Ieee.{Float, nan, inf, fin, Format, binary64, up, down, round, div, of_int, in_float}
+use lib.Ieee.{Float, nan, inf, fin, Format, binary64, up, down, round, div, of_int}
 use lib.Ieee.Fits.{down_pos}
 use lib.Ieee.Exact.{HasValue}
 use lib.Ieee.Scale.{round_same}
@@ -42,11 +40,6 @@ div_at f (fin s m e) (fin t n d) a b p hx hy =
 pub div_whole : (n m : ℕ) → 0 < m → n ≤ 2 ^ 53 → m ≤ 2 ^ 53 → div binary64 (of_int binary64 (pos n)) (of_int binary64 (pos m)) ≡ round binary64 false n m
 unfolding of_int
 div_whole n m p hn hm = div_at binary64 (round binary64 false n 1) (round binary64 false m 1) n m p (round_whole binary64 false n hn) (round_whole binary64 false m hm)
-
--- A whole number up to 2 ^ 53 is a 64-bit float.
-pub exact : (n : ℕ) → n ≤ 2 ^ 53 → T (in_float binary64 (pos n))
-unfolding in_float
-exact n h = passes (leb n (2 ^ 53)) (le-leb n (2 ^ 53) h)
 
 -- The counts of a sheet are small.
 pub whole_few : (c : Counts) → Bounds c → whole c ≤ 16384

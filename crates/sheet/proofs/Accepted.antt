@@ -1,8 +1,8 @@
 -- For callers that go on from what was read: an accepted sheet's checks are passed, its events stand in the slots, and its list lies inside the sheet.
-use Prim.Native.Nat.{ℕ, ◌+◌, ◌-◌, ◌/◌, ◌≤◌}
+use Prim.Native.Nat.{ℕ, ◌+◌, ◌/◌, ◌≤◌}
 use native.Mathlib.Omega.{arith}
 use mathlib.Core.List.{List, []}
-use mathlib.Core.Path.{◌≡◌, ap, ◌∙◌, subst}
+use mathlib.Core.Path.{◌≡◌, ap, subst}
 use Rattle.std.specs.Prelude.{Result, Ok, Err}
 use lib.ListN.{length, take, drop, length-take, length-drop}
 use Rattle.clock.specs.Said.{refusal, stated}

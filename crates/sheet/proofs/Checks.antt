@@ -1,40 +1,15 @@
 -- The checks 1 to 7 put together from single checks; and what the answer says to a caller that goes on with later checks.
 use Prim.Native.Nat.{ℕ}
-use mathlib.Core.Bool.{Bool, true, false, ◌&&◌, ◌||◌, not}
-use mathlib.Core.List.{List, [], ◌∷◌}
+use mathlib.Core.List.{List}
 use mathlib.Core.Logic.{◌≢◌}
-use mathlib.Core.Path.{◌≡◌, refl, sym, ap}
-use lib.Dec.{eqb}
+use mathlib.Core.Path.{◌≡◌, sym, ap}
 use lib.ListN.{length}
-use borrow.Author.Tests.{eqb-true, eq-eqb}
-use Rattle.std.specs.Cmp.{both_ways}
-use Rattle.std.specs.List.{starts_with}
 use Rattle.paper.specs.Reading.{header_checks}
 use Rattle.paper.specs.Refusals.{Refusal, of_call, refused, outcome}
 use Rattle.paper.specs.Terms.{wrong_count}
 use Rattle.paper.proofs.Laws.Refused as paper
 use Rattle.sheet.specs.Header.{in_turn, wrong_length, wrong_letters, wrong_version, wrong_zeros, wrong_list, wrong_stamps, Lies}
 use Rattle.sheet.specs.declared.header.Parts.{Parts}
-
--- The letters CKT.
-swapped : (a b : ℕ) → eqb a b ≡ eqb b a
-swapped a b = both_ways (eqb a b) (eqb b a) (λ e. eq-eqb b a (sym (eqb-true a b e))) (λ e. eq-eqb a b (sym (eqb-true b a e)))
-
-any_differs : (x y z : Bool) → not (x && (y && (z && true))) ≡ (not x || not y || not z)
-any_differs true true true = refl
-any_differs true true false = refl
-any_differs true false z = refl
-any_differs false y z = refl
-
-first_differs : (x : Bool) → not (x && false) ≡ (not x || true || true)
-first_differs true = refl
-first_differs false = refl
-
-pub letters : (b : List ℕ) → not (starts_with eqb b (67 ∷ 75 ∷ 84 ∷ [])) ≡ wrong_letters b
-letters [] = refl
-letters (x ∷ []) = rw (swapped 67 x) (first_differs (eqb x 67))
-letters (x ∷ y ∷ []) = rw (swapped 67 x, swapped 75 y) (any_differs (eqb x 67) (eqb y 75) false)
-letters (x ∷ y ∷ z ∷ b) = rw (swapped 67 x, swapped 75 y, swapped 84 z) (any_differs (eqb x 67) (eqb y 75) (eqb z 84))
 
 module _ {b : List ℕ} {p : Parts} (l : Lies b p) where
   pub in_order :

@@ -16,12 +16,6 @@ is_fit c = rw (← c.is_wrong_count.ensures) c.if-is_wrong_count-n.false
 pub returns-then-is_wrong_count-n : goal.returns-then-is_wrong_count-n
 returns-then-is_wrong_count-n c = ap refused c.from.ensures ∙ ordering_refused _ _ (is_unfit (goal.at.returns-then-is_wrong_count-n c).Then-is_wrong_count-n)
 
-pub is_within-requires : goal.is_within-requires
-is_within-requires c = same_length _ _ (is_fit (goal.at.is_within-requires c).Else-is_wrong_count-n)
-
-pub is_within-requires-2 : goal.is_within-requires-2
-is_within-requires-2 c = sym (same_length _ _ (is_fit (goal.at.is_within-requires-2 c).Else-is_wrong_count-n))
-
 pub returns : goal.returns
 returns c =
     let fit = is_fit (goal.at.returns c).Else-is_wrong_count-n in

@@ -1,9 +1,9 @@
--- Clearing Lamport numbers: where m of them are lent the first m are zeroed, and elsewhere nothing is written.
+-- Clearing Lamport numbers: where m of them are lent the first m are zeroed.
 use mathlib.Core.List.{[]}
 use mathlib.Core.Path.{refl, ◌∙◌}
 use native.Mathlib.Omega.{arith}
 use lib.ListN.{length}
-use borrow.Author.Tests.{le-leb, lt-leb}
+use borrow.Author.Tests.{le-leb}
 use Rattle.course.proofs.Tidied.{zeroed_cleared}
 use Rattle.course.proofs.clear_lamports.Goals as goal
 
@@ -12,6 +12,3 @@ returns-then-m-lamports c =
     let a = c.args in
     rw (le-leb a.m (length a.lamports.now) c.if-m-lamports.true)
     (c.zero.ensures ∙ zeroed_cleared a.m [] a.lamports.now {k = 0} refl refl (omega arith) c.if-m-lamports.true)
-
-pub returns-else-m-lamports : goal.returns-else-m-lamports
-returns-else-m-lamports c = let a = c.args in rw (lt-leb a.m (length a.lamports.now) c.if-m-lamports.false)

@@ -1,9 +1,8 @@
 -- The strict course: what the course of offers left behind and what was tidied, put together by the laws of `StrictCourse`.
-use native.Mathlib.Omega.{arith}
 use mathlib.Core.Path.{refl, ap}
 use Rattle.paper.specs.Refusals.{Refusal}
 use Rattle.std.proofs.lemmas.Result.{err_from_is_err_and}
-use Rattle.course.proofs.Tidied.{tail, whole_tail, lamports_tail}
+use Rattle.course.proofs.Tidied.{tail}
 use Rattle.course.proofs.StrictCourse.{strict_kept, some_tried, strict_ran, strict_stopped}
 use Rattle.course.proofs.strict_lamport.Goals as goal
 
@@ -13,25 +12,11 @@ returns-in_err-t c = let p = err_from_is_err_and c.from_residual.result c.from_r
 pub tidy-requires : goal.tidy-requires
 tidy-requires c = tail c.in_ok-t.ensures
 
-pub zero-requires : goal.zero-requires
-zero-requires c = lamports_tail c.in_ok-t.ensures
-
 pub returns-then-t : goal.returns-then-t
 returns-then-t c = strict_ran c.in_ok-t.ensures refl c.if-t.true c.tidy.ensures c.zero.ensures
 
-pub tidy-requires-2 : goal.tidy-requires-2
-tidy-requires-2 c = whole_tail c.in_ok-t.ensures
-
-pub zero-requires-2 : goal.zero-requires-2
-zero-requires-2 c = (omega arith, (lamports_tail c.in_ok-t.ensures).1)
-
 pub overflow_sub-at : goal.overflow_sub-at
 overflow_sub-at c = (some_tried c.in_ok-t.ensures c.if-t.false).0
-
-pub bounds-answers-at : goal.bounds-answers-at
-bounds-answers-at c =
-    let t = some_tried c.in_ok-t.ensures c.if-t.false in
-    omega (arith, t.0, t.1)
 
 pub returns : goal.returns
 returns c =

@@ -1,22 +1,16 @@
--- 21, or the percentage in its slot.
+-- The percentage in its slot.
 use mathlib.Core.Path.{refl, sym, ap, ◌∙◌}
 use native.Mathlib.Omega.{arith}
-use borrow.Author.Tests.{eqb-true, eqb-false}
+use borrow.Author.Tests.{eqb-false}
 use Prim.Native.Nat.{◌≤◌}
 use lib.ListN.{length}
 use Rattle.course.specs.Said.{work}
 use Rattle.percentage.specs.Said.{counts, saving}
-use Rattle.percentage.proofs.Placed.{put_none, put_first, placing_late, placing_done}
+use Rattle.percentage.proofs.Placed.{put_none, put_first, placing_done}
 use Rattle.percentage.proofs.place.Goals as goal
 use Rattle.percentage.proofs.place.Goals.{Else-is_empty}
 
-pub returns-then-is_empty : goal.returns-then-is_empty
-returns-then-is_empty c =
-    let a = c.args in
-    let none = eqb-true (length a.percent.now) 0 (sym c.is_empty.ensures ∙ c.if-is_empty.true) in
-    placing_late (counts a.c) (work a.clocks.now a.masks.now a.values.now) a.percent.now (omega arith) c.from.ensures c.clear.ensures
-
-some : (c : goal.Else-is_empty) → 1 ≤ length c.args.percent.now
+some : (c : Else-is_empty) → 1 ≤ length c.args.percent.now
 some c = let n = eqb-false (length c.args.percent.now) 0 (sym c.is_empty.ensures ∙ c.if-is_empty.false) in omega arith
 
 pub returns-in-Some : goal.returns-in-Some

@@ -1,20 +1,12 @@
--- Reading: a header that refuses refuses the sheet and writes nothing; a right one is told by its parts.
-use mathlib.Core.Path.{sym, ◌∙◌}
+-- Reading: a header that refuses refuses the sheet and writes nothing.
+use mathlib.Core.Path.{◌∙◌}
 use Rattle.std.proofs.lemmas.Result.{err_from_is_err_and}
 use Rattle.clock.specs.Check.{number_of}
-use Rattle.paper.proofs.Sheets.Checks.{is_done}
 use Rattle.paper.specs.Reading.{header_checks}
-use Rattle.paper.specs.Refusals.{of_call}
 use Rattle.sheet.specs.Header.{parts_in}
 use Rattle.sheet.proofs.Checks.{is_refused}
 use Rattle.sheet.proofs.InOrder.{head_refused}
 use Rattle.sheet.proofs.read_lamport.Goals as goal
-
-pub judged-requires : goal.judged-requires
-judged-requires c =
-    let b = c.args.sheet.now in
-    let q = (is_done (of_call (header_checks b 0)) (parts_in b) c.in_ok-parts.parts).0 (sym c.in_ok-parts.ensures) in
-    (q.0, sym q.1)
 
 pub returns-in_err-parts-clause-numbers : goal.returns-in_err-parts-clause-numbers
 returns-in_err-parts-clause-numbers c =

@@ -1,11 +1,6 @@
 -- What is stored from here on completes the stamps.
-use Rattle.std.proofs.Common.{arith, ap, sym}
-use Rattle.sheet.specs.Held.{left}
-use Rattle.layout.proofs.Stored.{put_start, put_more, put_nothing, put_end}
+use Rattle.layout.proofs.Stored.{put_more, put_nothing, put_end}
 use Rattle.layout.proofs.store.put_stamps.Goals as goal
-
-pub loop-stamp-init : goal.loop-stamp-init
-loop-stamp-init c = put_start (sym (ap left c.into_iter-stamp-iterator.ensures.into_iter_gives)) (omega arith) (omega arith)
 
 pub loop-stamp-preserved-in-Some-stamp : goal.loop-stamp-preserved-in-Some-stamp
 loop-stamp-preserved-in-Some-stamp c = put_more c.loop-stamp.invariant (rw c.in-Some-stamp.is at c.in-Some.ensures.steps) c.put_stamp-to.ensures

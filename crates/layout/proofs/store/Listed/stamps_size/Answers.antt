@@ -1,10 +1,7 @@
 -- What is counted and what is left to count are the whole size.
 use native.Mathlib.Omega.{arith}
-use Rattle.layout.proofs.Sizes.{size_more, size_end, size_start}
+use Rattle.layout.proofs.Sizes.{size_more, size_end}
 use Rattle.layout.proofs.store.Listed.stamps_size.Goals as goal
-
-pub loop-i-init : goal.loop-i-init
-loop-i-init c = (size_start _ _, omega arith)
 
 pub loop-i-preserved : goal.loop-i-preserved
 loop-i-preserved c =
