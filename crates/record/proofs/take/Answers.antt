@@ -1,29 +1,27 @@
--- A receive takes in a stamp: the loop keeps `Along`, and at its end the record is what R3 says.
+-- A receive takes in a stamp: the loop keeps `Taken`, and at its end the record is what R3 says.
 use Prim.Native.Nat.{◌^◌, ◌<◌}
 use native.Mathlib.Omega.{arith}
-use Rattle.record.proofs.Taking.{along_start, along_grew, along_kept, along_end}
+use lib.ListN.{length}
+use Rattle.record.proofs.Taking.{value_below, taken_end}
 use Rattle.record.proofs.take.Goals as goal
-use Rattle.record.proofs.take.Goals.{Start}
+use Rattle.record.proofs.take.Goals.{In-Some, Start, else-running-k, then-running-k}
 
 word : (c : goal.Start) → c.args.mask < 2 ^ 32
 word c = omega (arith, c.ranges.mask)
 
-pub loop-k-init : goal.loop-k-init
-loop-k-init c =
-    let a = c.args in
-    rw (c.into_iter-k-iterator.ensures.into_iter_gives, c.zip-k-items.ensures.first) (along_start a.own a.mask a.values.now a.at a.running.now c.zip-k-items.ensures.second.0)
+room : (c : goal.In-Some) → c.loop-k.next < length c.args.values.now
+room c = omega (arith, c.requires, value_below c.loop-k.invariant (word (goal.at.In-Some c).Start) c.in-Some.ensures.steps)
 
-pub loop-k-preserved-then-running-k : goal.loop-k-preserved-then-running-k
-loop-k-preserved-then-running-k c =
-    let s = c.in-Some.ensures.steps in
-    along_grew c.loop-k.invariant (word (goal.at.loop-k-preserved-then-running-k c).Start) c.requires s.0 s.1 c.if-running-k.true
+pub offset_bounds-values-next : goal.offset_bounds-values-next
+offset_bounds-values-next c = omega (arith, room (goal.at.offset_bounds-values-next c).In-Some)
 
-pub loop-k-preserved : goal.loop-k-preserved
-loop-k-preserved c =
-    let s = c.in-Some.ensures.steps in
-    along_kept c.loop-k.invariant (word (goal.at.loop-k-preserved c).Start) c.requires s.0 s.1 c.if-running-k.false
+pub bounds-values-next : goal.bounds-values-next
+bounds-values-next c = room (goal.at.bounds-values-next c).In-Some
+
+pub overflow_add-next : goal.overflow_add-next
+overflow_add-next c = omega (arith, room (goal.at.overflow_add-next c).In-Some)
 
 pub returns : goal.returns
 returns c p e =
-    along_end c.loop-k.invariant (word (goal.at.returns c).Start) c.requires c.in-None.ensures.steps p
-    (record { clock = omega arith; updated = omega arith; sent = omega arith }) e
+    taken_end c.loop-k.invariant (word (goal.at.returns c).Start) p (record { clock = omega arith; updated = omega arith; sent = omega arith })
+    e c.in-None.ensures.steps
