@@ -6,9 +6,8 @@ use mathlib.Core.List.{List, [], ◌∷◌}
 use native.Mathlib.Omega.{arith}
 use borrow.Author.Tests.{ltb-true, ltb-false}
 use lib.Dec.{ltb}
-use lib.ListN.{length, get_or-eq_default}
+use lib.ListN.{length}
 use lib.Seq.{sets, set_out}
-use Rattle.paper.specs.Bytes.{byte, two}
 use Rattle.octets.specs.Appended.{past}
 
 -- What agrees with `at + k` as it stands, and behind the end, agrees with the place k bytes behind `at`.
@@ -23,13 +22,6 @@ past_cases P len at k small here out = go (ltb 18446744073709551615 (at + k)) re
         let h : at + k ≤ 18446744073709551615 = ltb-false 18446744073709551615 (at + k) e in
         let q : past at k ≡ at + k = omega arith in
         subst P (sym q) here
-
--- What is read behind the end is 0.
-pub byte_out : (s : List ℕ) (k : ℕ) → length s ≤ k → byte s k ≡ 0
-byte_out s k h = get_or-eq_default s 0 h
-
-pub two_out : (s : List ℕ) (k : ℕ) → length s ≤ k → two s k ≡ 0
-two_out s k h = omega (arith, byte_out s k h, byte_out s (k + 1) (omega arith))
 
 -- Behind the end nothing is stored.
 pub sets_out : (t l : List ℕ) (i : ℕ) → length l ≤ i → sets l i t ≡ l
