@@ -14,6 +14,7 @@ fn fields(number: u8, x: usize, y: usize, z: usize) -> u64
     requires { (x < 256) × (y < 65536) × (z < 65536) }
     ensures { result ≡ packed (record { number = number; x = x; y = y; z = z }) }
 {
+    // `as`, since no From goes from usize to u64.
     u64::from(number) + 256 * (x as u64) + 65536 * (y as u64) + 4294967296 * (z as u64)
 }
 
