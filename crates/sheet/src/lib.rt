@@ -23,16 +23,18 @@ pub struct Contents {
 }
 
 impl Contents {
-    // The event list, in the sheet that was read.
+    // The event list, in the sheet that was read; in any other bytes what stands there, as far as they go.
     pub fn list(self, sheet: &[u8]) -> &[u8]
-        requires { self.offset + self.size ≤ length sheet.now }
         ensures { result.now ≡ take self.size (drop self.offset sheet.now) }
     {
-        Part {
-            offset: self.offset,
-            size: self.size,
+        if sheet.len() < self.offset {
+            return &[];
         }
-        .of(sheet)
+        let rest = &sheet[self.offset..];
+        if rest.len() < self.size {
+            return rest;
+        }
+        &rest[..self.size]
     }
 }
 

@@ -19,8 +19,5 @@ returns-in_err-read c =
     let p = err_from_is_err_and c.from_residual.result c.from_residual.ensures.1 in
     rw (p.1, p.2) (compare_refused _ _ _ _ c.in_err-read.ensures.reads)
 
-pub list-list-requires : goal.list-list-requires
-list-list-requires c = (sheet_accepted (goal.at.list-list-requires c).In_ok-read).inside
-
 pub returns : goal.returns
 returns c = compare_done (sheet_accepted (goal.at.returns c).In_ok-read) c.list-list.ensures c.comparison.ensures

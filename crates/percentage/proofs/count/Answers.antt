@@ -14,9 +14,6 @@ sheet_accepted :
     Accepted a.sheet.now (work a.clocks.now a.masks.now a.values.now) (work t.clocks t.masks t.values) (stated x.terms) x.offset x.size x.carried
 sheet_accepted c = accepted _ _ {c = c.in_ok-read.read} refl (c.in_ok-read.ensures.reads, c.in_ok-read.ensures.place)
 
-pub list-requires : goal.list-requires
-list-requires c = (sheet_accepted (goal.at.list-requires c).In_ok-read).inside
-
 pub returns-in_err-read : goal.returns-in_err-read
 returns-in_err-read c =
     let p = err_from_is_err_and c.from_residual.result c.from_residual.ensures.1 in

@@ -19,9 +19,6 @@ returns-in_err-read c =
     let p = err_from_is_err_and c.from_residual.result c.from_residual.ensures.1 in
     rw (p.1, p.2) (chain_refused _ _ _ _ c.in_err-read.ensures.reads _)
 
-pub list-list-requires : goal.list-list-requires
-list-list-requires c = (sheet_accepted (goal.at.list-list-requires c).In_ok-read).inside
-
 pub linking-requires : goal.linking-requires
 linking-requires c = some_stands (sheet_accepted (goal.at.linking-requires c).In_ok-read) c.list-list.ensures
 

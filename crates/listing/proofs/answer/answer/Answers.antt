@@ -15,9 +15,6 @@ sheet_accepted :
     Accepted c.args.sheet.now ample (work t.clocks t.masks t.values) (stated x.terms) x.offset x.size x.carried
 sheet_accepted c = let e = c.in-Ok.ensures in accepted _ ample {c = c.in-Ok.c} refl (as_read c.args.sheet.now e.numbers, e.place)
 
-pub list-list-requires : goal.list-list-requires
-list-list-requires c = (sheet_accepted (goal.at.list-list-requires c).In-Ok).inside
-
 pub returns-in-Err : goal.returns-in-Err
 returns-in-Err c = printed_as (either_refused _ (as_read c.args.sheet.now c.in-Err.ensures.numbers) c.args.lamport) c.refusal_text.ensures
 
