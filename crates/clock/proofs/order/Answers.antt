@@ -1,7 +1,6 @@
-use mathlib.Core.Path.{◌≡◌, ap, sym, ◌∙◌}
+use mathlib.Core.Path.{◌≡◌, ap, ◌∙◌}
 use mathlib.Core.Bool.{true, false}
 use lib.ListN.{length}
-use Rattle.paper.specs.Order.{within}
 use Rattle.paper.specs.Refusals.{refused, done}
 use Rattle.clock.proofs.Laws.{unfit, ordering_refused, ordering_judged, same_length}
 use Rattle.clock.proofs.order.Goals as goal
@@ -16,9 +15,10 @@ is_fit c = rw (← c.is_wrong_count.ensures) c.if-is_wrong_count-n.false
 pub returns-then-is_wrong_count-n : goal.returns-then-is_wrong_count-n
 returns-then-is_wrong_count-n c = ap refused c.from.ensures ∙ ordering_refused _ _ (is_unfit (goal.at.returns-then-is_wrong_count-n c).Then-is_wrong_count-n)
 
+pub ways-there-requires : goal.ways-there-requires
+ways-there-requires c = same_length _ _ (is_fit c)
+
 pub returns : goal.returns
 returns c =
     let fit = is_fit (goal.at.returns c).Else-is_wrong_count-n in
-    let e = same_length _ _ fit in
-    let back = c.is_within-2.ensures ∙ ap (λ n. within n c.args.second.now c.args.first.now) (sym e) in
-    ap done c.judge.ensures ∙ ordering_judged _ _ _ _ fit c.is_within.ensures back
+    ap done c.judge.ensures ∙ ordering_judged c.args.first.now c.args.second.now _ _ fit c.ways-there.ensures.0 c.ways-there.ensures.1
