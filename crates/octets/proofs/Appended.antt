@@ -4,12 +4,12 @@ use mathlib.Core.Path.{◌≡◌, refl, sym, ap, ◌∙◌}
 use mathlib.Core.Bool.{Bool, true, false}
 use mathlib.Core.List.{List, [], ◌∷◌, ◌++◌, append_assoc}
 use native.Mathlib.Nat.{add-zero, add-suc, suc-add}
+use native.Mathlib.Numerals.{add-one}
 use native.Mathlib.Omega.{arith}
 use borrow.Author.Tests.{ltb-true, ltb-false}
 use lib.Dec.{ltb}
-use borrow.Rule.Slice.PartMut.{put_mid}
-use lib.ListN.{length, take, drop, set, length-append, take-append-drop}
-use lib.Seq.{sets, sets-eq, length-sets, length-take-le, drop-drop, drop-length}
+use lib.ListN.{length, get_or, take, drop, set, length-append, take-append-drop}
+use lib.Seq.{sets, length-sets, length-take-le, take-suc, drop-length}
 use Rattle.paper.specs.Bytes.{two_bytes, four_bytes}
 use Rattle.octets.specs.Appended.{Appended}
 use Rattle.octets.proofs.Places.{sets_out, sets_past}
@@ -67,13 +67,11 @@ sets_cut t l at n e =
         let end : drop n t ≡ [] = ap (λ (k : ℕ). drop k t) all ∙ drop-length t in
         rw end
 
--- What a part of the list is written over with.
-pub part_stored :
-    (t l v : List ℕ) (at n k : ℕ) → n ≡ min (length t) (length l - at) → 0 < n → k ≡ n → v ≡ take n t → put_mid at k l v ≡ sets l at t
-part_stored t l v at n k e h q f =
-    let front : length (take n t) ≡ n = length-take-le n t (omega arith) in
-    let fits : at + length (take n t) ≤ length l = omega (arith, front) in
-    rw (q, f, drop-drop, ← sets_cut t l at n e, sets-eq (take n t) l at fits, append_assoc, front)
+-- One byte more of a text.
+pub one_more : (t l m : List ℕ) (at i : ℕ) → m ≡ sets l at (take i t) → i < length t → set m (at + i) (get_or t i 0) ≡ sets l at (take (i + 1) t)
+one_more t l m at i e h =
+    let front : length (take i t) ≡ i = length-take-le i t (omega arith) in
+    rw (e, add-one, take-suc t i 0, ← sets_more (take i t) (get_or t i 0 ∷ []) l at, front)
 
 -- The four bytes of a number are its two lower and its two upper ones.
 pub stored_four :

@@ -41,9 +41,9 @@ pub fn put_all(out: &mut [u8], at: usize, bytes: &[u8]) -> usize
     ensures { Appended out.old at bytes.now result out.new }
 {
     let count = within(out.len(), at, bytes.len());
-    // Behind the end there is no range, not even an empty one.
-    if count > 0 {
-        out[at..at + count].copy_from_slice(&bytes[..count]);
+    // Byte by byte: of `copy_from_slice` the compiler makes a call of memmove here, which an archive for C would need from outside.
+    for i in 0..count {
+        out[at + i] = bytes[i];
     }
     past(at, bytes.len())
 }

@@ -1,22 +1,23 @@
--- What the slice has no room for would not be stored anyway.
+-- The first i bytes are stored; what the slice has no room for would not be stored anyway.
 use borrow.Author.Rules.{rules}
-use mathlib.Core.Path.{◌≡◌, sym, ap, ◌∙◌}
+use mathlib.Core.Path.{◌≡◌, ap, ◌∙◌}
 use native.Mathlib.Omega.{arith}
-use lib.ListN.{take}
-use lib.Seq.{sets}
-use Rattle.octets.proofs.Appended.{sets_cut, part_stored}
+use lib.ListN.{length}
+use lib.Seq.{length-sets}
+use Rattle.octets.proofs.Appended.{sets_cut, one_more}
 use Rattle.octets.proofs.store.put_all.Goals as goal
-use Rattle.octets.proofs.store.put_all.Goals.{Joined-count-gt0, then-count-gt0, else-count-gt0}
 
-stored : (c : goal.Joined-count-gt0) → c.if-count-gt0.out ≡ sets c.args.out.now c.args.at c.args.bytes.now
-stored c =
-    let e = c.within-count.ensures in
-    elim c.if-count-gt0.branch [
-      | then-count-gt0 w ↦ w.out-is ∙ part_stored c.args.bytes.now _ w.copy_from_slice.new.self c.args.at c.within-count.result _ e w.if-count-gt0.true (omega arith) w.copy_from_slice.ensures.after
-      | else-count-gt0 w ↦
-          let z : c.within-count.result ≡ 0 = omega arith in
-          w.out-is ∙ ap (λ (k : _). sets c.args.out.now c.args.at (take k c.args.bytes.now)) (sym z) ∙ sets_cut _ _ _ _ e
-    ]
+pub bounds-out-at : goal.bounds-out-at
+bounds-out-at c = omega (arith, simp length-sets at (ap length c.loop-i.invariant))
+
+pub loop-i-preserved : goal.loop-i-preserved
+loop-i-preserved c = one_more _ _ _ _ _ c.loop-i.invariant (omega arith)
 
 pub returns : goal.returns
-returns c = record { lent = omega arith; place = search rules; bytes = stored (goal.at.returns c).Joined-count-gt0 }
+returns c =
+    let e : c.loop-i.i ≡ c.within-count.result = omega arith in
+    record {
+      lent = omega arith;
+      place = search rules;
+      bytes = c.loop-i.invariant ∙ sets_cut _ _ _ _ (e ∙ c.within-count.ensures);
+    }
