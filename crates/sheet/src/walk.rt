@@ -41,7 +41,8 @@ impl<'a> Stamps<'a> {
     // All events of a list.
     pub fn of(list: &'a [u8], masks: &'a [u32], values: &'a [u16]) -> Stamps<'a>
         requires { Slots list.now masks.now values.now }
-        ensures { left result ≡ slot_pieces list.now masks.now values.now }
+        ensures lent { (result.list.now ≡ list.now) × (result.masks.now ≡ masks.now) × (result.values.now ≡ values.now) }
+        ensures pieces { left result ≡ slot_pieces list.now masks.now values.now }
     {
         Stamps {
             list,

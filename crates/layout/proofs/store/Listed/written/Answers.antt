@@ -8,4 +8,4 @@ use Rattle.layout.proofs.store.Listed.written.Goals as goal
 pub put_sheet-requires : goal.put_sheet-requires
 put_sheet-requires c =
     let a = c.args in
-    c.stamps_size-stamped.ensures.0 ∙ sym (size_is a.self.list.now a.masks.now a.values.now c.requires) ∙ ap (λ ps. length (flatten ps)) (sym c.of.ensures)
+    c.stamps_size-stamped.ensures.0 ∙ sym (size_is a.self.list.now a.masks.now a.values.now c.requires) ∙ ap (λ ps. length (flatten ps)) (sym c.of.ensures.pieces)
